@@ -1,0 +1,6 @@
+pub mod Booleans
+pub mod SearchLaws
+pub mod SceneLaws
+pub mod RuleLaws
+pub mod MatterLaws
+pub mod KeyLaws

@@ -1,0 +1,14 @@
+pub mod Types
+pub mod Search
+pub mod RemainingTime
+pub mod Options
+pub mod CurrentLevel
+pub mod Coupling
+pub mod Commands
+pub mod Fade
+pub mod Moves
+pub mod Scene
+pub mod Causes
+pub mod Laws
+pub mod Matter
+pub mod Keys
