@@ -25,7 +25,6 @@ use Rattle.transitions.specs.declared.types.Rate.the-variants as rate
 use Rattle.transitions.specs.declared.types.Time.the-variants as time
 use Rattle.transitions.specs.declared.types.OptionsBitmap.{OptionsBitmap}
 use Rattle.transitions.specs.declared.coupling.Coupling.the-variants.{Sent, NotSent}
-use Rattle.transitions.specs.declared.commands.Target.the-variants.{To}
 use Rattle.transitions.specs.declared.commands.StepTime.the-variants.{Overflow}
 use Rattle.transitions.specs.declared.commands.MoveRate.the-variants.{Goes, InvalidCommand}
 use Rattle.transitions.proofs.RuleLaws.{rule-laws}
@@ -137,11 +136,6 @@ rate-parts : (given default : Rate) (fastest : ℕ) → moveRate given default f
 unfolding rateInForce
 rate-parts given default fastest h = simp (rate-is given default fastest, eq-eqb (moveRate given default fastest) 0 h)
 
--- the range
-
-range : (level lo hi : ℕ) → level ≤ 254 → lo ≤ hi → (t : ℕ) × (targetLevel level true lo hi ≡ To t) × (lo ≤ t) × (t ≤ hi)
-range level lo hi h g = let w = rule-laws .target-held level lo hi h g in (w .0, w .1, w .2, w .3)
-
 -- the coupling
 
 after : (w c x on : Bool) → afterSent on (cond (w && c && not (Bool·beq x on)) (Sent x) NotSent) ≡ cond (w && c) x on
@@ -177,7 +171,7 @@ matter-agrees = record {
   step-time-parts = step-time-parts;
   rate = rates;
   rate-parts = rate-parts;
-  range = range;
-  range-parts = (λ h. omega arith, rule-laws .target-255 true 1 254);
+  range = rule-laws .target-held;
+  range-parts = (λ h. omega arith, rule-laws .target-255 1 254 .0);
   coupling = coupling;
 }

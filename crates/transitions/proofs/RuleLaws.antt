@@ -32,7 +32,6 @@ use Rattle.transitions.specs.declared.types.Time.the-variants as time
 use Rattle.transitions.specs.declared.types.OptionsBitmap.{OptionsBitmap}
 use Rattle.transitions.specs.declared.causes.Tests.{Tests}
 use Rattle.transitions.specs.declared.coupling.Coupling.the-variants.{Sent, NotSent}
-use Rattle.transitions.specs.declared.commands.Target.the-variants.{To, Stopped}
 use Rattle.transitions.specs.declared.commands.StepTime.the-variants.{Takes, Overflow}
 use Rattle.transitions.specs.declared.commands.MoveRate.the-variants.{Goes, InvalidCommand}
 use Rattle.transitions.specs.declared.fade.Next.the-variants.{Wait, Ask}
@@ -134,25 +133,14 @@ coupling w c on min level v = sent w c (ltb min level) on v
 
 -- Part 6
 
--- the three ways of a target
-pub target-kept : (level : ℕ) (continues : Bool) (lo hi : ℕ) → 254 < level → targetLevel level continues lo hi ≡ To level
+-- the two ways of a target
+pub target-kept : (level lo hi : ℕ) → 254 < level → targetLevel level lo hi ≡ level
 unfolding targetLevel
-target-kept level continues lo hi h = simp (lt-ltb 254 level h)
+target-kept level lo hi h = simp (lt-ltb 254 level h)
 
-pub target-clamped : (level : ℕ) (continues : Bool) (lo hi : ℕ) → level ≤ 254 → continues ≡ true
-    → targetLevel level continues lo hi ≡ To (heldTo lo hi level)
+pub target-clamped : (level lo hi : ℕ) → level ≤ 254 → targetLevel level lo hi ≡ heldTo lo hi level
 unfolding targetLevel
-target-clamped level continues lo hi h e = simp (le-ltb 254 level h, e)
-
-pub target-stopped : (level : ℕ) (continues : Bool) (lo hi : ℕ) → level ≤ 254 → continues ≡ false
-    → targetLevel level continues lo hi ≡ Stopped
-unfolding targetLevel
-target-stopped level continues lo hi h e = simp (le-ltb 254 level h, e)
-
-target-held : (level lo hi : ℕ) → level ≤ 254 → lo ≤ hi
-    → (t : ℕ) × (targetLevel level true lo hi ≡ To t) × (lo ≤ t) × (t ≤ hi) × (lo ≤ level → level ≤ hi → t ≡ level)
-target-held level lo hi h g =
-    (heldTo lo hi level, target-clamped level true lo hi h refl, omega arith, omega arith, λ x y. omega arith)
+target-clamped level lo hi h = simp (le-ltb 254 level h)
 
 -- the three ways of a step's time
 same-size : (given actual size : ℕ) → actual ≡ size → stepTime (time.Known (tenths given)) actual size ≡ Takes (tenths given)
@@ -373,9 +361,9 @@ rule-laws = record {
   end-report = end-report;
   missing-report = missing-report;
   coupling = coupling;
-  target-255 = λ continues lo hi. target-kept 255 continues lo hi (omega arith);
-  target-stopped = λ level lo hi h. target-stopped level false lo hi h refl;
-  target-held = target-held;
+  target-255 = λ lo hi. (target-kept 255 lo hi (omega arith), refl);
+  target-held = λ level lo hi h g. rw (target-clamped level lo hi h) (omega arith, omega arith);
+  target-stays = λ level lo hi h g k. rw (target-clamped level lo hi h) (omega arith);
   step-time = step-time;
   step-12 = step-12;
   step-no-time = step-no-time;

@@ -1,8 +1,7 @@
 -- Part 6 of document 01: targets, steps and rates.
 use Prim.Native.Nat.{ℕ, _-_, min, max}
 use mathlib.Core.Bool.{Bool, cond}
-use mathlib.Core.List.{List, [], _∷_}
-use lib.Dec.{ltb, eqb}
+use lib.Dec.{ltb, leb, eqb}
 use Rattle.units.specs.Numbers.{heldTo, sumTo255}
 use Rattle.units.specs.Units.{tenths, scaledFloor}
 use Rattle.units.specs.declared.Tenths.{Tenths}
@@ -14,21 +13,18 @@ use Rattle.transitions.specs.declared.types.Mode.the-variants.{Up, Down}
 use Rattle.transitions.specs.declared.types.Rate.{Rate}
 use Rattle.transitions.specs.declared.types.Time.{Time}
 use Rattle.transitions.specs.declared.types.Time.the-variants as time
-use Rattle.transitions.specs.declared.commands.Target.{Target}
-use Rattle.transitions.specs.declared.commands.Target.the-variants.{To, Stopped}
 use Rattle.transitions.specs.declared.commands.StepTime.{StepTime}
 use Rattle.transitions.specs.declared.commands.StepTime.the-variants.{Takes, Overflow}
 use Rattle.transitions.specs.declared.commands.MoveRate.{MoveRate}
 use Rattle.transitions.specs.declared.commands.MoveRate.the-variants.{Goes, InvalidCommand}
 
--- "255 is kept, unclamped, options not consulted. Lower targets: options, then clamped to MIN..MAX"
-unfoldable pub targetLevel : ℕ → Bool → ℕ → ℕ → Target
-targetLevel level continues lo hi = cond (ltb 254 level) (To level) (cond continues (To (heldTo lo hi level)) Stopped)
+-- "255 is kept, unclamped. Lower targets: clamped to MIN..MAX"
+unfoldable pub targetLevel : ℕ → ℕ → ℕ → ℕ
+targetLevel level lo hi = cond (ltb 254 level) level (heldTo lo hi level)
 
--- the target that an answer stands for, if any
-abbrev pub targets : Target → List ℕ
-targets (To level) = level ∷ []
-targets Stopped = []
+-- "255: options not consulted"
+abbrev pub consultsOptions : ℕ → Bool
+consultsOptions level = leb level 254
 
 -- "sum or difference held to 0..255, then capped at MAX (up) or raised to MIN (down)"
 unfoldable pub stepLevel : Mode → ℕ → ℕ → ℕ → ℕ → ℕ
@@ -49,6 +45,10 @@ abbrev pub stepTimeNumber : StepTime → ℕ
 stepTimeNumber (Takes t) = 0
 stepTimeNumber Overflow = 12
 
+-- number 12 is due
+abbrev pub isOverflow : StepTime → Bool
+isOverflow t = eqb (stepTimeNumber t) 12
+
 -- "missing rate takes `default_move_rate`, else `FASTEST_RATE`"
 unfoldable pub rateInForce : Rate → Rate → ℕ → MoveRate
 rateInForce given default fastest =
@@ -58,3 +58,7 @@ rateInForce given default fastest =
 abbrev pub moveRateNumber : MoveRate → ℕ
 moveRateNumber (Goes r) = 0
 moveRateNumber InvalidCommand = 10
+
+-- number 10 is due
+abbrev pub isInvalid : MoveRate → Bool
+isInvalid r = eqb (moveRateNumber r) 10

@@ -16,7 +16,7 @@ use Rattle.transitions.specs.RemainingTime.{remainingTimeDue}
 use Rattle.transitions.specs.Options.{shouldContinue}
 use Rattle.transitions.specs.CurrentLevel.{currentLevelDue}
 use Rattle.transitions.specs.Coupling.{coupledOnOff}
-use Rattle.transitions.specs.Commands.{targetLevel, stepTime, stepTimeNumber, rateInForce, moveRateNumber}
+use Rattle.transitions.specs.Commands.{targetLevel, consultsOptions, stepTime, stepTimeNumber, rateInForce, moveRateNumber}
 use Rattle.transitions.specs.Fade.{fadePeriod, remainingAfter, nextLevel, waitOrAsk}
 use Rattle.transitions.specs.Moves.{movePeriod}
 use Rattle.transitions.specs.Scene.{Pair, pairs, decides, sceneLevel}
@@ -28,7 +28,6 @@ use Rattle.transitions.specs.declared.types.Time.the-variants as time
 use Rattle.transitions.specs.declared.types.OptionsBitmap.{OptionsBitmap}
 use Rattle.transitions.specs.declared.causes.Tests.{Tests}
 use Rattle.transitions.specs.declared.coupling.Coupling.the-variants.{Sent}
-use Rattle.transitions.specs.declared.commands.Target.the-variants.{To, Stopped}
 use Rattle.transitions.specs.declared.commands.StepTime.the-variants.{Takes}
 use Rattle.transitions.specs.declared.commands.MoveRate.the-variants.{Goes}
 use Rattle.transitions.specs.declared.fade.Next.the-variants.{Wait, Ask}
@@ -54,11 +53,10 @@ pub record Laws : Type 0 where
   pub coupling : (withOnOff coupled on : Bool) (min level : ℕ) (v : Bool)
       → (coupledOnOff withOnOff coupled on min level ≡ Sent v)
       ↔ ((withOnOff ≡ true) × (coupled ≡ true) × (v ≡ ltb min level) × (v ≡ on → ⊥))
-  -- Part 6: 255 stays 255, whatever the options say; a lower target that they let pass lies within MIN..MAX, and is as it was if it lay there
-  pub target-255 : (continues : Bool) (lo hi : ℕ) → targetLevel 255 continues lo hi ≡ To 255
-  pub target-stopped : (level lo hi : ℕ) → level ≤ 254 → targetLevel level false lo hi ≡ Stopped
-  pub target-held : (level lo hi : ℕ) → level ≤ 254 → lo ≤ hi
-      → (t : ℕ) × (targetLevel level true lo hi ≡ To t) × (lo ≤ t) × (t ≤ hi) × (lo ≤ level → level ≤ hi → t ≡ level)
+  -- Part 6: 255 stays 255 and the options are not looked at; a lower target lies within MIN..MAX, and is as it was if it lay there
+  pub target-255 : (lo hi : ℕ) → (targetLevel 255 lo hi ≡ 255) × (consultsOptions 255 ≡ false)
+  pub target-held : (level lo hi : ℕ) → level ≤ 254 → lo ≤ hi → (lo ≤ targetLevel level lo hi) × (targetLevel level lo hi ≤ hi)
+  pub target-stays : (level lo hi : ℕ) → level ≤ 254 → lo ≤ level → level ≤ hi → targetLevel level lo hi ≡ level
   -- a step's time T′: size·T′ ≤ given·actual < size·(T′ + 1)
   pub step-time : (given actual size : ℕ) (t : Tenths) → 1 ≤ size → stepTime (time.Known (tenths given)) actual size ≡ Takes t
       → (size * t .0 ≤ given * actual) × (given * actual < size * (t .0 + 1))

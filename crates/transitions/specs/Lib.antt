@@ -9,6 +9,8 @@ pub mod Fade
 pub mod Moves
 pub mod Scene
 pub mod Causes
+pub mod Tasks
+pub mod Events
 pub mod Laws
 pub mod Matter
 pub mod Keys

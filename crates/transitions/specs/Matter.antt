@@ -25,7 +25,6 @@ use Rattle.transitions.specs.declared.types.Time.the-variants as time
 use Rattle.transitions.specs.declared.types.OptionsBitmap.{OptionsBitmap}
 use Rattle.transitions.specs.declared.coupling.Coupling.{Coupling}
 use Rattle.transitions.specs.declared.coupling.Coupling.the-variants.{Sent, NotSent}
-use Rattle.transitions.specs.declared.commands.Target.the-variants.{To}
 use Rattle.transitions.specs.declared.commands.StepTime.the-variants.{Takes, Overflow}
 use Rattle.transitions.specs.declared.commands.MoveRate.the-variants.{Goes, InvalidCommand}
 
@@ -126,8 +125,8 @@ pub record Agreement : Type 0 where
       → rateInForce given default fastest ≡ Goes (moveRate given default fastest)
   pub rate-parts : (given default : Rate) (fastest : ℕ) → moveRate given default fastest ≡ 0 → rateInForce given default fastest ≡ InvalidCommand
   -- the range of levels: a level is moved to within MIN..MAX; 255, which is no level, is kept
-  pub range : (level lo hi : ℕ) → IsLevel level → lo ≤ hi → (t : ℕ) × (targetLevel level true lo hi ≡ To t) × (lo ≤ t) × (t ≤ hi)
-  pub range-parts : (IsLevel 255 → ⊥) × (targetLevel 255 true 1 254 ≡ To 255)
+  pub range : (level lo hi : ℕ) → IsLevel level → lo ≤ hi → (lo ≤ targetLevel level lo hi) × (targetLevel level lo hi ≤ hi)
+  pub range-parts : (IsLevel 255 → ⊥) × (targetLevel 255 1 254 ≡ 255)
   -- the coupling: wherever the level is not below MIN
   pub coupling : (withOnOff coupled on : Bool) (min level : ℕ) → min ≤ level
       → afterSent on (coupledOnOff withOnOff coupled on min level) ≡ onOffAfter withOnOff coupled on min level

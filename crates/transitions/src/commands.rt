@@ -7,13 +7,7 @@ use units::Scaled;
 use units::Tenths;
 use units::numbers;
 ghost use mathlib.Core.Path.{_≡_};
-ghost use Rattle.transitions.specs.Commands.{rateInForce, stepLevel, stepTime, targetLevel};
-
-// Where a command to move to a level goes, or that the options stop it.
-pub enum Target {
-    To(u8),
-    Stopped,
-}
+ghost use Rattle.transitions.specs.Commands.{consultsOptions, isInvalid, isOverflow, rateInForce, stepLevel, stepTime, targetLevel};
 
 // The time that a step takes, or that its product is too large.
 pub enum StepTime {
@@ -27,18 +21,44 @@ pub enum MoveRate {
     InvalidCommand,
 }
 
-// The source refuses a level above 254 here, and both of its callers drop that refusal: 255 is kept as it is,
-// and the options are not looked at.
-pub fn move_to_level_validation(level: u8, continues: bool, min_level: u8, max_level: u8) -> Target
-    ensures { λ r. ⌜ r ≡ targetLevel level continues «min_level» «max_level» ⌝ }
+impl StepTime {
+    pub fn is_overflow(self) -> bool
+        ensures { λ r. ⌜ r ≡ isOverflow self ⌝ }
+    {
+        match self {
+            StepTime::Takes(_) => false,
+            StepTime::Overflow => true,
+        }
+    }
+}
+
+impl MoveRate {
+    pub fn is_invalid(self) -> bool
+        ensures { λ r. ⌜ r ≡ isInvalid self ⌝ }
+    {
+        match self {
+            MoveRate::Goes(_) => false,
+            MoveRate::InvalidCommand => true,
+        }
+    }
+}
+
+// The target of a command, of a scene and of a reaction: within MIN..MAX, but 255 as it is. (The source's
+// move_to_level_validation refuses a level above 254, and both of its callers drop that refusal.)
+pub fn target_level(level: u8, min_level: u8, max_level: u8) -> u8
+    ensures { λ r. ⌜ r ≡ targetLevel level «min_level» «max_level» ⌝ }
 {
     if 254 < level {
-        return Target::To(level);
+        return level;
     }
-    if continues {
-        return Target::To(numbers::clamp(level, min_level, max_level));
-    }
-    Target::Stopped
+    numbers::clamp(level, min_level, max_level)
+}
+
+// The options are looked at for a target of at most 254 only.
+pub fn consults_options(level: u8) -> bool
+    ensures { λ r. ⌜ r ≡ consultsOptions level ⌝ }
+{
+    level <= 254
 }
 
 // The target of a step, before the rules for targets.

@@ -1,0 +1,9 @@
+use borrow.Author.Needs.{needs}
+use Rattle.transitions.proofs.types.Rate.is_zero.Statement.{statement}
+use Rattle.transitions.proofs.types.Rate.is_zero.Tie as tie
+
+returns : tie.Need-returns
+returns c = simp (c .before .self .given .1)
+
+pub is-zero-spec : {M : Type 1} → statement M
+is-zero-spec = tie.close (tie.spec (λ c. search needs) (λ c. search needs) returns (λ c. search needs))

@@ -1,0 +1,132 @@
+// The fifteen kinds of event (document 01, "Records"), and the actions that answer them.
+// Derived from level_control.rs of project-chip/rs-matter 43f61585a4 (see NOTICE), and changed.
+use crate::types::Level;
+use crate::types::Mode;
+use crate::types::OptionsBitmap;
+use crate::types::Rate;
+use crate::types::Time;
+use units::Micros;
+use units::Millis;
+ghost use mathlib.Core.Path.{_≡_};
+ghost use Rattle.transitions.specs.Events.{turnOf};
+
+pub struct MoveToLevelRequest {
+    pub with_on_off: bool,
+    pub level: u8,
+    pub transition_time: Time,
+    pub options_mask: OptionsBitmap,
+    pub options_override: OptionsBitmap,
+}
+
+pub struct MoveRequest {
+    pub with_on_off: bool,
+    pub mode: Mode,
+    pub rate: Rate,
+    pub options_mask: OptionsBitmap,
+    pub options_override: OptionsBitmap,
+}
+
+pub struct StepRequest {
+    pub with_on_off: bool,
+    pub mode: Mode,
+    pub step_size: u8,
+    pub transition_time: Time,
+    pub options_mask: OptionsBitmap,
+    pub options_override: OptionsBitmap,
+}
+
+pub struct StopRequest {
+    pub with_on_off: bool,
+    pub options_mask: OptionsBitmap,
+    pub options_override: OptionsBitmap,
+}
+
+// What a scene recalls: the level that its pairs decide, or none.
+pub struct SceneRequest {
+    pub level: Level,
+    pub transition_time: Millis,
+}
+
+// What the device answers to a request.
+pub enum DeviceAnswer {
+    Level(u8),
+    Missing,
+    Failed,
+}
+
+pub enum EventKind {
+    StartUp,
+    MoveToLevel(MoveToLevelRequest),
+    Move(MoveRequest),
+    Step(StepRequest),
+    Stop(StopRequest),
+    Answer(DeviceAnswer),
+    Wake,
+    OnOffChanged(bool),
+    Scene(SceneRequest),
+    DeviceUpdate(u8),
+    DeviceStop,
+    SetOnLevel(Level),
+    SetDefaultMoveRate(Rate),
+    SetStartUpCurrentLevel(Level),
+    FactoryReset,
+}
+
+// An event carries its clock time and the on/off value of the coupled cluster.
+pub struct Event {
+    pub at: Micros,
+    pub on_off: bool,
+    pub kind: EventKind,
+}
+
+// How an event takes its turn: three kinds have a rule of their own.
+pub enum Turn {
+    StartUp,
+    Answer,
+    Wake,
+    Other,
+}
+
+// The kinds of action, by their letters in document 01.
+pub enum ActionKind {
+    D,
+    P,
+    S,
+    C,
+    L,
+    R,
+    W,
+    E,
+    K,
+    X,
+}
+
+// The value is the level of D, 0 or 1 of C, the time of W, the number of E, and 0 of the others.
+pub struct Action {
+    pub kind: ActionKind,
+    pub value: u64,
+}
+
+impl EventKind {
+    pub fn turn(self) -> Turn
+        ensures { λ r. ⌜ r ≡ turnOf self ⌝ }
+    {
+        match self {
+            EventKind::StartUp => Turn::StartUp,
+            EventKind::MoveToLevel(_) => Turn::Other,
+            EventKind::Move(_) => Turn::Other,
+            EventKind::Step(_) => Turn::Other,
+            EventKind::Stop(_) => Turn::Other,
+            EventKind::Answer(_) => Turn::Answer,
+            EventKind::Wake => Turn::Wake,
+            EventKind::OnOffChanged(_) => Turn::Other,
+            EventKind::Scene(_) => Turn::Other,
+            EventKind::DeviceUpdate(_) => Turn::Other,
+            EventKind::DeviceStop => Turn::Other,
+            EventKind::SetOnLevel(_) => Turn::Other,
+            EventKind::SetDefaultMoveRate(_) => Turn::Other,
+            EventKind::SetStartUpCurrentLevel(_) => Turn::Other,
+            EventKind::FactoryReset => Turn::Other,
+        }
+    }
+}

@@ -1,0 +1,29 @@
+// What is configured, and the attributes that events can set.
+// Derived from level_control.rs of project-chip/rs-matter 43f61585a4 (see NOTICE), and changed.
+use crate::types::Level;
+use crate::types::OptionsBitmap;
+use crate::types::Rate;
+use crate::types::Time;
+use units::Tenths;
+
+// The attributes that events can set, and a reset puts back.
+pub struct Attributes {
+    pub on_level: Level,
+    pub options: OptionsBitmap,
+    pub on_off_transition_time: Tenths,
+    pub on_transition_time: Time,
+    pub off_transition_time: Time,
+    pub default_move_rate: Rate,
+    pub start_up_current_level: Level,
+}
+
+// What was configured: the source's associated constants of the hooks.
+pub struct Settings {
+    pub min_level: u8,
+    pub max_level: u8,
+    pub coupled: bool,
+    pub fastest_rate: u8,
+    pub lighting: bool,
+    pub current_level: Level,
+    pub attributes: Attributes,
+}
