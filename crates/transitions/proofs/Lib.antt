@@ -3,4 +3,3 @@ pub mod SearchLaws
 pub mod SceneLaws
 pub mod RuleLaws
 pub mod MatterLaws
-pub mod KeyLaws

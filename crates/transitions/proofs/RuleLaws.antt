@@ -209,11 +209,11 @@ unfolding fadePeriod
 fade-period time n h =
     (omega (arith, mul-div-le (time .0 * 100) n), omega (arith, lt-mul-div-succ (time .0 * 100) h))
 
-moves-up : (counter target : ℕ) (time : Tenths) → 1 ≤ time .0 → counter < target → nextLevel counter target time ≡ counter + 1
+pub moves-up : (counter target : ℕ) (time : Tenths) → 1 ≤ time .0 → counter < target → nextLevel counter target time ≡ counter + 1
 unfolding nextLevel
 moves-up counter target time h up = simp (ne-eqb (time .0) 0 (λ z. omega arith), lt-ltb counter target up)
 
-moves-down : (counter target : ℕ) (time : Tenths) → 1 ≤ time .0 → target < counter → nextLevel counter target time ≡ counter - 1
+pub moves-down : (counter target : ℕ) (time : Tenths) → 1 ≤ time .0 → target < counter → nextLevel counter target time ≡ counter - 1
 unfolding nextLevel
 moves-down counter target time h down =
     simp (ne-eqb (time .0) 0 (λ z. omega arith), le-ltb counter target (omega arith), lt-ltb target counter down)

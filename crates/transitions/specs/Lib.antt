@@ -13,4 +13,3 @@ pub mod Tasks
 pub mod Events
 pub mod Laws
 pub mod Matter
-pub mod Keys

@@ -101,6 +101,12 @@ fadeWaiting f remaining until = record {
 abbrev pub afterFade : Bool → ℕ → AfterFade
 afterFade restores level = cond restores (Restore level) Stay
 
+-- "afterwards, if `on_level` is missing, the level before is stored back"
+unfoldable pub levelToRestore : AfterFade → Level → Level
+levelToRestore Stay onLevel = Missing
+levelToRestore (Restore before) (Known level) = Missing
+levelToRestore (Restore before) Missing = Known before
+
 -- a fade from a level: "n = |t − c|", its remaining time 100·T, its first request open
 unfoldable pub fadeFrom : ℕ → FadeRequest → Micros → Fade
 fadeFrom level r now = record {

@@ -13,7 +13,7 @@ use units::Millis;
 use units::Tenths;
 use units::numbers;
 ghost use mathlib.Core.Path.{_≡_};
-ghost use Rattle.transitions.specs.Tasks.{afterFade, atLimit, beginFade, fadeAsking, fadeFrom, fadeLast, fadeLeft, fadeNext, fadeStart, fadeWaiting, isMoveEnd, moveAsking, moveWaiting, nextMove, phaseDue, phaseOpen, taskDue, taskOpen};
+ghost use Rattle.transitions.specs.Tasks.{afterFade, atLimit, beginFade, fadeAsking, fadeFrom, fadeLast, fadeLeft, fadeNext, fadeStart, fadeWaiting, isMoveEnd, levelToRestore, moveAsking, moveWaiting, nextMove, phaseDue, phaseOpen, taskDue, taskOpen};
 
 // A request is open since a time, or the next one waits until a time.
 pub enum Phase {
@@ -236,6 +236,19 @@ pub fn after_fade(restores: bool, level: u8) -> AfterFade
         return AfterFade::Restore(level);
     }
     AfterFade::Stay
+}
+
+// Which level is put back when a fade has ended: none where an on level is known by then.
+pub fn level_to_restore(after: AfterFade, on_level: Level) -> Level
+    ensures { λ r. ⌜ r ≡ levelToRestore after «on_level» ⌝ }
+{
+    match after {
+        AfterFade::Stay => Level::Missing,
+        AfterFade::Restore(before) => match on_level {
+            Level::Known(_) => Level::Missing,
+            Level::Missing => Level::Known(before),
+        },
+    }
 }
 
 // A fade from a level, with its first request open.

@@ -1,0 +1,43 @@
+use mathlib.Core.Path.{sym, _∙_}
+use Rattle.level_control.specs.Targets.{goTo}
+use Rattle.level_control.proofs.AnswerLaws.{packed-pushed, packed-if, packed-coupling}
+use borrow.Author.Needs.{needs}
+use Rattle.level_control.proofs.reports.Told.go_to.Statement.{statement}
+use Rattle.level_control.proofs.reports.Told.go_to.Tie as tie
+
+returns : tie.Need-returns
+unfolding goTo
+returns c = simp (c .push-if .ensures, c .before .push-coupling .ensures, c .before .before .reporting .ensures, c .before .before .before .with-task .ensures, c .before .before .before .before .before .is-missing .ensures, c .before .before .before .before .before .before .before .update-coupled-on-off .ensures, sym (c .before .before .before .before .before .before .before .before .before .before .begin-fade .ensures) ∙ c .before .before .before .before .before .before .before .before .enum-told .given .1, packed-if, packed-coupling)
+
+returns-2 : tie.Need-returns-2
+unfolding goTo
+returns-2 c = simp (c .push .ensures, c .before .reporting2 .ensures, c .before .before .with-task2 .ensures, sym (c .before .before .before .before .before .begin-fade .ensures) ∙ c .before .before .before .enum-told2 .given .1, packed-pushed)
+
+returns-3 : tie.Need-returns-3
+unfolding goTo
+returns-3 c = simp (c .push2 .ensures, c .before .before .reporting3 .ensures, c .before .before .before .with-task3 .ensures, sym (c .before .before .before .before .before .before .before .begin-fade .ensures) ∙ c .before .before .before .before .before .begin .given .1, packed-pushed)
+
+pub go-to-spec : {M : Type 1} → statement M
+go-to-spec =
+    tie.close
+    (tie.spec
+    (λ c κs. tt)
+    (λ c. search needs)
+    (λ c κs. tt)
+    (λ c κs. tt)
+    (λ c κs. tt)
+    (λ c κs. tt)
+    (λ c κs. tt)
+    (λ c κs. tt)
+    (λ c. search needs)
+    (λ c κs. tt)
+    (λ c κs. tt)
+    (λ c κs. tt)
+    (λ c. search needs)
+    (λ c κs. tt)
+    (λ c κs. tt)
+    (λ c. search needs)
+    (λ c κs. tt)
+    returns
+    returns-2
+    returns-3)

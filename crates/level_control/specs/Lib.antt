@@ -1,0 +1,17 @@
+pub mod State
+pub mod Answer
+pub mod Reports
+pub mod Targets
+pub mod Fades
+pub mod Moves
+pub mod Reactions
+pub mod Rest
+pub mod Causes
+pub mod Events
+pub mod Path
+pub mod Starts
+pub mod Run
+pub mod Orders
+pub mod Demand1
+pub mod Demand3
+pub mod Keys
