@@ -1,6 +1,6 @@
 -- Demand 3: every fade, after every list of events of which only answers with a level and wakes are accepted. Assumes nothing.
-use Prim.Native.Nat.{ℕ, suc, _+_, _*_, _/_, _≤_, _<_}
-use mathlib.Core.Bool.{Bool, true, false, cond, not, _&&_, _||_}
+use Prim.Native.Nat.{ℕ, suc, _+_, _≤_, _<_}
+use mathlib.Core.Bool.{Bool, true, cond, not, _||_}
 use mathlib.Core.Path.{_≡_, refl, sym, ap, subst, _∙_}
 use mathlib.Core.List.{List, [], _∷_, _++_}
 use native.Mathlib.Omega.{arith}
@@ -10,7 +10,7 @@ use lib.ListN.{length, take}
 use lib.Seq.{take-all, take-at}
 use Rattle.units.specs.declared.Micros.{Micros}
 use Rattle.transitions.specs.Events.{event}
-use Rattle.transitions.specs.Fade.{fadePeriod, nextLevel}
+use Rattle.transitions.specs.Fade.{fadePeriod}
 use Rattle.transitions.specs.Tasks.{fadeFrom}
 use Rattle.transitions.specs.declared.events.DeviceAnswer.the-variants as device
 use Rattle.transitions.specs.declared.events.Event.{Event}
@@ -22,15 +22,16 @@ use Rattle.transitions.specs.declared.tasks.Phase.{Phase}
 use Rattle.transitions.specs.declared.tasks.Phase.the-variants.{Asked, Waiting}
 use Rattle.transitions.specs.declared.tasks.Task.{Task}
 use Rattle.transitions.specs.declared.tasks.Task.the-variants as task
-use Rattle.transitions.specs.declared.types.Level.the-variants.{Known}
+use Rattle.transitions.specs.declared.types.Level.{Level}
+use Rattle.transitions.specs.declared.types.Level.the-variants.{Known, Missing}
 use Rattle.transitions.proofs.Booleans.{and-first, and-second}
-use Rattle.level_control.specs.State.{withTask}
+use Rattle.level_control.specs.State.{accept, withTask}
 use Rattle.level_control.specs.Answer.{Outcome}
 use Rattle.level_control.specs.Targets.{goTo}
 use Rattle.level_control.specs.Events.{numberOf, eventOf}
 use Rattle.level_control.specs.Path.{path}
-use Rattle.level_control.specs.Run.{allRefused, asks, opened, Run, Pending, Nothing, Request, Wait, waits, accepted, isOnward, started, next, play, onlyOnward, stateAfter}
-use Rattle.level_control.specs.Starts.{Fades, distance, onStart}
+use Rattle.level_control.specs.Run.{allRefused, asks, opened, Run, Pending, Nothing, waits, accepted, isOnward, started, next, play, onlyOnward, stateAfter}
+use Rattle.level_control.specs.Starts.{Fades, distance, onStartAt, onStart}
 use Rattle.level_control.specs.Demand3.{Starts, directly, after-on, Shown, EveryFade}
 use Rattle.level_control.specs.declared.reports.Told.{Told}
 use Rattle.level_control.specs.declared.state.LevelControlState.{LevelControlState}
@@ -39,7 +40,7 @@ use Rattle.level_control.proofs.TimeLaws as times
 use Rattle.level_control.proofs.SeenLaws.{asks-after, opened-after}
 use Rattle.level_control.proofs.EventLaws.{event-number}
 use Rattle.level_control.proofs.FadeInvariant.{Running, Inv, openings, pendingIn, Kept, keep}
-use Rattle.level_control.proofs.StartLaws.{go-to-starts, Starting, direct-starts, reacting, on-is, refused-stays, on-starts}
+use Rattle.level_control.proofs.StartLaws.{go-to-starts, Starting, direct-starts, reacting, on-is, refused-stays, on-starts, on-answered-is}
 
 -- a fade that starts makes the invariant hold
 first-holds : (c m : ℕ) (r : FadeRequest) (at : Micros) → (c ≡ r .target → ⊥) → 1 ≤ r .«transition_time» .0
@@ -68,10 +69,10 @@ go-to-holds told r at on c level ne pos =
     rw (go-to-starts told r at on c level ne, asks-after, opened-after)
     (first-holds c (told .state .«remaining_time» .0) r at ne pos, refl)
 
-starting-holds : (o : Outcome) (c t T : ℕ) → Starting o c t T → 1 ≤ T → Seen c t T o
-starting-holds o c t T w pos =
-    let holds = go-to-holds (w .told) (w .request) (w .at) (w .on) c (w .level) (w .apart) (rw (w .time) pos) in
-    let same : Outcome = goTo (w .told) (w .request) (w .at) (w .on) in
+starting-holds : (o : Outcome) (at : Micros) (c t T : ℕ) → Starting o at c t T → 1 ≤ T → Seen c t T o
+starting-holds o at c t T w pos =
+    let holds = go-to-holds (w .told) (w .request) at (w .on) c (w .level) (w .apart) (rw (w .time) pos) in
+    let same : Outcome = goTo (w .told) (w .request) at (w .on) in
     subst (λ (x : Outcome). Seen c t T x) (sym (w .outcome))
     (subst (λ (x : ℕ). Seen c x T same) (w .target)
     (subst (λ (x : ℕ). Seen c (w .request .target) x same) (w .time) holds))
@@ -135,8 +136,22 @@ module _ (c t T : ℕ) (pos : 1 ≤ T) (small : T ≤ 65535) where
   shown s asked k p (task.Move m) h = absurd h
   shown s asked k p (task.OnReaction r) h = absurd h
 
-accepted-zero : (s : LevelControlState) (e : Event) → accepted s e ≡ true → numberOf s e ≡ 0
+pub accepted-zero : (s : LevelControlState) (e : Event) → accepted s e ≡ true → numberOf s e ≡ 0
 accepted-zero s e h = sym (event-number s e) ∙ eqb-true (eventOf s e .number) 0 h
+
+-- the answer after event 7 (on)
+reacting-starts : (s : LevelControlState) (at₀ at : Micros) (on : Bool) (v c t T : ℕ) → onStart s v ≡ Fades c t T
+    → numberOf (reacting s at₀) (event at on (kind.Answer (device.Level v))) ≡ 0
+    → Starting (eventOf (reacting s at₀) (event at on (kind.Answer (device.Level v)))) at c t T
+unfolding onStart accept withTask
+reacting-starts s at₀ at on v c t T named z =
+    subst (λ (o : Outcome). Starting o at c t T) (sym (on-answered-is (reacting s at₀) (record { before = s .«current_level» }) at on v refl z))
+    (on-starts (reacting s at₀) (s .«current_level») at on v c t T (same (s .attributes .«on_level») (s .«current_level») ∙ named))
+  where
+    same : (o b : Level) → onStartAt o b (reacting s at₀) v ≡ onStartAt o b s v
+    same (Known l) b = refl
+    same Missing (Known l) = refl
+    same Missing Missing = refl
 
 -- the answer after event 7 (on) and refused events, in the state that they leave
 module _ (s : LevelControlState) (at₀ at : Micros) (on₀ on : Bool) (es : List Event) (v c t T : ℕ) where
@@ -146,29 +161,35 @@ module _ (s : LevelControlState) (at₀ at : Micros) (on₀ on : Bool) (es : Lis
   abbrev Answers : EventKind → EventKind → Type 0
   Answers k a =
       accepted s (event at₀ on₀ k) ≡ true → allRefused (eventOf s (event at₀ on₀ k) .state) es ≡ true → accepted (left k) (event at on a) ≡ true
-      → Starting (eventOf (left k) (event at on a)) c t T
+      → Starting (eventOf (left k) (event at on a)) at c t T
 
   on-answers : onStart s v ≡ Fades c t T → Answers (kind.OnOffChanged true) (kind.Answer (device.Level v))
   on-answers named ok refusals answered =
       let first : eventOf s (event at₀ on₀ (kind.OnOffChanged true)) .state ≡ reacting s at₀ =
       ap (λ (o : Outcome). o .state) (on-is s at₀ on₀ (accepted-zero s (event at₀ on₀ (kind.OnOffChanged true)) ok)) in
       let same : left (kind.OnOffChanged true) ≡ reacting s at₀ = refused-stays _ es refusals ∙ first in
-      subst (λ (x : LevelControlState). Starting (eventOf x (event at on (kind.Answer (device.Level v)))) c t T) (sym same)
-      (on-starts s at₀ at on v c t T named
-      (accepted-zero (reacting s at₀) (event at on (kind.Answer (device.Level v)))
-      (subst (λ (x : LevelControlState). accepted x (event at on (kind.Answer (device.Level v))) ≡ true) same answered)))
+      let z : numberOf (reacting s at₀) (event at on (kind.Answer (device.Level v))) ≡ 0 =
+      accepted-zero (reacting s at₀) (event at on (kind.Answer (device.Level v)))
+      (subst (λ (x : LevelControlState). accepted x (event at on (kind.Answer (device.Level v))) ≡ true) same answered) in
+      subst (λ (x : LevelControlState). Starting (eventOf x (event at on (kind.Answer (device.Level v)))) at c t T) (sym same)
+      (reacting-starts s at₀ at on v c t T named z)
 
   after-on-starts : (k a : EventKind) → k ≡ kind.OnOffChanged true → a ≡ kind.Answer (device.Level v) → onStart s v ≡ Fades c t T → Answers k a
   after-on-starts k a q r named =
       subst (λ (x : EventKind). Answers x a) (sym q) (subst (λ (x : EventKind). Answers (kind.OnOffChanged true) x) (sym r) (on-answers named))
 
-pub starts : (o : Outcome) (c t T : ℕ) → Starts o c t T → Starting o c t T
-starts _ _ _ _ (directly s e c t T ok named) = direct-starts s (e .at) (e .«on_off») c t T (e .kind) (accepted-zero s e ok) named
+pub starts : (o : Outcome) (c t T : ℕ) → Starts o c t T → (at : Micros) × Starting o at c t T
+starts _ _ _ _ (directly s e c t T ok named) = (e .at, direct-starts s (e .at) (e .«on_off») c t T (e .kind) (accepted-zero s e ok) named)
 starts _ _ _ _ (after-on s e a es v c t T ok q refusals answered r named) =
-    after-on-starts s (e .at) (a .at) (e .«on_off») (a .«on_off») es v c t T (e .kind) (a .kind) q r named ok refusals answered
+    (a .at, after-on-starts s (e .at) (a .at) (e .«on_off») (a .«on_off») es v c t T (e .kind) (a .kind) q r named ok refusals answered)
+
+-- what holds after the list
+pub kept : (o : Outcome) (c t T : ℕ) (es : List Event) → Starts o c t T → (pos : 1 ≤ T) (small : T ≤ 65535) → onlyOnward (started o) es ≡ true
+    → Kept c t T pos small (play (started o) es)
+kept o c t T es w pos small h = goes-on c t T pos small es (started o) h (starting-holds o (starts o c t T w .0) c t T (starts o c t T w .1) pos)
 
 pub every-fade : EveryFade
 every-fade o c t T es w ne pos small h =
     let r : Run = play (started o) es in
     shown c t T pos small (r .state) (r .asked) (r .answers) (r .pending) (r .state .task)
-    (goes-on c t T pos small es (started o) h (starting-holds o c t T (starts o c t T w) pos))
+    (kept o c t T es w pos small h)

@@ -283,16 +283,16 @@ module _ (c t T : ℕ) (pos : 1 ≤ T) where
     Kept r = Inv c t T (r .asked) (r .answers) (r .state .«remaining_time» .0) (r .pending) (r .state .task)
 
     -- an accepted event, by its outcome
-    next-is : (r : Run) (e : Event) (o : Outcome) → eventOf (r .state) e ≡ o → o .number ≡ 0 → nextRun r e ≡ nextBy true o (turnOf (e .kind)) r
+    pub next-is : (r : Run) (e : Event) (o : Outcome) → eventOf (r .state) e ≡ o → o .number ≡ 0 → nextRun r e ≡ nextBy true o (turnOf (e .kind)) r
     unfolding nextRun
     next-is r e o q z = rw q (rw (eq-eqb (o .number) 0 z) refl)
 
-    answer-is : (s : LevelControlState) (at : Micros) (on : Bool) (v : ℕ) → numberOf s (event at on (kind.Answer (device.Level v))) ≡ 0
+    pub answer-is : (s : LevelControlState) (at : Micros) (on : Bool) (v : ℕ) → numberOf s (event at on (kind.Answer (device.Level v))) ≡ 0
         → eventOf s (event at on (kind.Answer (device.Level v))) ≡ answeredIn (s .task) (accept s at) (device.Level v) at on
     unfolding commandTestsOf run answered accept
     answer-is s at on v z = event-runs s (event at on (kind.Answer (device.Level v))) z refl
 
-    wake-is : (s : LevelControlState) (at : Micros) (on : Bool) → numberOf s (event at on kind.Wake) ≡ 0
+    pub wake-is : (s : LevelControlState) (at : Micros) (on : Bool) → numberOf s (event at on kind.Wake) ≡ 0
         → eventOf s (event at on kind.Wake) ≡ wokenIn (s .task) (accept s at) at on
     unfolding commandTestsOf run woken accept
     wake-is s at on z = event-runs s (event at on kind.Wake) z refl
@@ -351,7 +351,7 @@ module _ (c t T : ℕ) (pos : 1 ≤ T) where
     keep-onward r at on kind.FactoryReset w z h = absurd (false≢true w)
 
     -- a refused event leaves the run as it was
-    refused-is : (r : Run) (e : Event) → (numberOf (r .state) e ≡ 0 → ⊥) → nextRun r e ≡ r
+    pub refused-is : (r : Run) (e : Event) → (numberOf (r .state) e ≡ 0 → ⊥) → nextRun r e ≡ r
     unfolding nextRun
     refused-is r e ne = rw (event-refused (r .state) e ne) (simp (ne-eqb (numberOf (r .state) e) 0 ne, append-nil))
 

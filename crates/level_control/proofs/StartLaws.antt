@@ -1,27 +1,22 @@
 -- Where `startOf` and `onStart` name a fade, the machine starts it. Assumes nothing.
-use Prim.Native.Nat.{ℕ, suc, _+_, _-_, _*_, _/_, _≤_, _<_, min, max}
+use Prim.Native.Nat.{ℕ, _+_, _-_, _*_, _/_, min, max}
 use mathlib.Core.Bool.{Bool, true, false, cond, not, _&&_, _||_, true≢false, false≢true}
 use mathlib.Core.Path.{_≡_, refl, sym, ap, _∙_}
 use mathlib.Core.List.{List, [], _∷_, _++_}
-use mathlib.Core.Logic.{_⊎_, inl, inr, ⊎-elim}
+use mathlib.Core.Logic.{_⊎_, inl, inr}
 use native.Mathlib.Omega.{arith}
-use borrow.Author.Tests.{eqb-true, eqb-false, eq-eqb, ne-eqb, ltb-true, ltb-false, leb-true, lt-ltb, le-ltb, lt-leb, not-true, not-false}
+use borrow.Author.Tests.{eqb-false, eq-eqb, ne-eqb, leb-true, lt-leb, not-true}
 use lib.Dec.{eqb, leb, ltb}
 use Rattle.units.specs.Numbers.{apart}
-use Rattle.units.specs.Units.{tenths, millis, tenthsDown, scaledFloor}
+use Rattle.units.specs.Units.{tenths, tenthsDown, scaledFloor}
 use Rattle.units.specs.declared.Micros.{Micros}
 use Rattle.units.specs.declared.Tenths.{Tenths}
-use Rattle.transitions.specs.Causes.{eventTests, firstCause}
 use Rattle.transitions.specs.Commands.{targetLevel, stepLevel, stepTime, isOverflow, consultsOptions}
 use Rattle.transitions.specs.Events.{act, event}
-use Rattle.transitions.specs.Matter.{executes}
-use Rattle.transitions.specs.Options.{shouldContinue}
 use Rattle.transitions.specs.Tasks.{beginFade, fadeFrom}
 use Rattle.transitions.specs.Types.{levelOr, timeOr}
-use Rattle.transitions.specs.declared.causes.CommandTests.{CommandTests}
-use Rattle.transitions.specs.declared.causes.TurnTests.{TurnTests}
 use Rattle.transitions.specs.declared.commands.StepTime.{StepTime}
-use Rattle.transitions.specs.declared.commands.StepTime.the-variants.{Takes, Overflow}
+use Rattle.transitions.specs.declared.commands.StepTime.the-variants.{Takes}
 use Rattle.transitions.specs.declared.events.ActionKind.the-variants.{D}
 use Rattle.transitions.specs.declared.events.DeviceAnswer.the-variants as device
 use Rattle.transitions.specs.declared.events.Event.{Event}
@@ -32,6 +27,8 @@ use Rattle.transitions.specs.declared.events.SceneRequest.{SceneRequest}
 use Rattle.transitions.specs.declared.events.StepRequest.{StepRequest}
 use Rattle.transitions.specs.declared.tasks.FadeRequest.{FadeRequest}
 use Rattle.transitions.specs.declared.tasks.OnReaction.{OnReaction}
+use Rattle.transitions.specs.declared.tasks.Begin.the-variants as begin
+use Rattle.transitions.specs.declared.tasks.Task.{Task}
 use Rattle.transitions.specs.declared.tasks.Task.the-variants as task
 use Rattle.transitions.specs.declared.types.Level.{Level}
 use Rattle.transitions.specs.declared.types.Level.the-variants.{Known, Missing}
@@ -40,7 +37,6 @@ use Rattle.transitions.specs.declared.types.Mode.the-variants.{Up, Down}
 use Rattle.transitions.specs.declared.types.OptionsBitmap.{OptionsBitmap}
 use Rattle.transitions.specs.declared.types.Time.{Time}
 use Rattle.transitions.specs.declared.types.Time.the-variants as time
-use Rattle.transitions.specs.declared.settings.Attributes.{Attributes}
 use Rattle.transitions.proofs.Booleans.{and-first, and-second}
 use Rattle.transitions.proofs.MatterLaws.{matter-agrees}
 use Rattle.level_control.specs.State.{accept, withTask, withAnswered}
@@ -48,10 +44,10 @@ use Rattle.level_control.specs.Answer.{Outcome, done, reportsOf}
 use Rattle.level_control.specs.Reports.{continues, setLevel, toldLevel}
 use Rattle.level_control.specs.Targets.{quiet, requestTo, goToBy, goTo, movedToLevel, steppedLevel, steppedTime, steppedBy, steppedFrom, stepped, recalledAt, recalled}
 use Rattle.level_control.specs.Reactions.{offTime, onTime, turnedOn, turnedOff, switched, onTo, onGoesOn, onAnswered}
-use Rattle.level_control.specs.Causes.{turnTests, moveToLevelTests, stepTests, overflowsFrom, stepOverflows, sceneTestsAt, sceneTests, commandTestsOf}
-use Rattle.level_control.specs.Events.{answered, run, numberOf, eventOf}
+use Rattle.level_control.specs.Causes.{moveToLevelTests, stepTests, overflowsFrom, stepOverflows, sceneTestsAt, sceneTests, commandTestsOf}
+use Rattle.level_control.specs.Events.{answeredIn, answered, run, numberOf, eventOf}
 use Rattle.level_control.specs.Run.{accepted, allRefused, stateAfter}
-use Rattle.level_control.specs.Starts.{Start, NoFade, Fades, startFrom, target, passes, when, givenOr, stepTo, distance, stepIn, stepStart, sceneStart, startOf, onStartAt, onStart}
+use Rattle.level_control.specs.Starts.{Start, NoFade, Fades, startFrom, target, passes, when, givenOr, stepTo, distance, stepIn, stepStart, sceneStart, startOf, onStartAt}
 use Rattle.level_control.specs.declared.reports.Told.{Told}
 use Rattle.level_control.specs.declared.state.LevelControlState.{LevelControlState}
 use Rattle.level_control.proofs.EventLaws.{event-refused, event-runs, event-number, command-passes}
@@ -92,7 +88,7 @@ down c size lo hi = omega arith
 
 -- What the two ways of writing a target, a time and the options have in common.
 
-target-is : (s : LevelControlState) (level : ℕ) → targetLevel level (s .settings .«min_level») (s .settings .«max_level») ≡ target s level
+pub target-is : (s : LevelControlState) (level : ℕ) → targetLevel level (s .settings .«min_level») (s .settings .«max_level») ≡ target s level
 unfolding targetLevel
 target-is s level = refl
 
@@ -101,19 +97,11 @@ unfolding timeOr
 given-is (time.Known t) other = refl
 given-is time.Missing other = refl
 
-continues-is : (s : LevelControlState) (withOnOff on : Bool) (mask override : OptionsBitmap)
+pub continues-is : (s : LevelControlState) (withOnOff on : Bool) (mask override : OptionsBitmap)
     → continues s withOnOff on mask override ≡ passes s withOnOff on mask override
 unfolding continues
 continues-is s withOnOff on mask override =
     matter-agrees .options withOnOff (s .settings .coupled) on (s .attributes .options) mask override
-
-level-or-known : (a b : Level) (l : ℕ) → a ≡ Known l → levelOr a b ≡ Known l
-unfolding levelOr
-level-or-known a b l e = rw e refl
-
-level-or-missing : (a b : Level) → a ≡ Missing → levelOr a b ≡ b
-unfolding levelOr
-level-or-missing a b e = rw e refl
 
 -- 255 is above 254: the options are not looked at, or let it pass
 not-stopped : (level : ℕ) (x : Bool) → (leb 255 level || x) ≡ true → (consultsOptions level && not x) ≡ false
@@ -130,7 +118,7 @@ not-stopped level x e = go (leb 255 level) refl x e
 
 -- a step's level and its time, the time where it is not refused
 
-step-is : (s : LevelControlState) (c : ℕ) (r : StepRequest) → steppedLevel s c r ≡ stepTo (r .mode) s c (r .«step_size»)
+pub step-is : (s : LevelControlState) (c : ℕ) (r : StepRequest) → steppedLevel s c r ≡ stepTo (r .mode) s c (r .«step_size»)
 unfolding steppedLevel
 step-is s c r = by (r .mode)
   where
@@ -158,21 +146,36 @@ pub go-to-starts : (told : Told) (r : FadeRequest) (at : Micros) (on : Bool) (c 
 unfolding goTo beginFade
 go-to-starts told r at on c e ne = rw (e, ne-eqb c (r .target) ne) refl
 
--- an outcome in which a fade from c to t in T tenths starts
-pub record Starting (o : Outcome) (c t T : ℕ) : Type 0 where
+-- and where none is named there is none: the task ends
+pub go-to-rests : (told : Told) (r : FadeRequest) (at : Micros) (on : Bool) (T : ℕ) → startFrom (told .state .«current_level») (r .target) T ≡ NoFade
+    → goTo told r at on .state .task ≡ task.Rest
+unfolding goTo beginFade withTask
+go-to-rests told r at on T e = by (told .state .«current_level») e
+  where
+    go : (c : ℕ) (b : Bool) → cond b NoFade (Fades c (r .target) T) ≡ NoFade
+        → goToBy (cond b begin.Reached (begin.Starts (fadeFrom c r at))) told r on .state .task ≡ task.Rest
+    go c true e = refl
+    go c false e = no-fade c (r .target) T (sym e)
+
+    by : (l : Level) → startFrom l (r .target) T ≡ NoFade → goToBy (beginFade l r at) told r on .state .task ≡ task.Rest
+    by (Known c) e = go c (eqb c (r .target)) e
+    by Missing e = refl
+
+-- an outcome in which a fade from c to t in T tenths starts at a time
+pub record Starting (o : Outcome) (at : Micros) (c t T : ℕ) : Type 0 where
   pub told : Told
   pub request : FadeRequest
-  pub at : Micros
   pub on : Bool
   pub outcome : o ≡ goTo told request at on
   pub level : told .state .«current_level» ≡ Known c
   pub target : request .target ≡ t
   pub time : request .«transition_time» .0 ≡ T
   pub apart : c ≡ request .target → ⊥
+  pub last : told .state .«last_accepted» ≡ at
 
 module _ (s : LevelControlState) (at : Micros) (on : Bool) (c t T : ℕ) where
   move-to-level-starts : (r : MoveToLevelRequest) → numberOf s (event at on (kind.MoveToLevel r)) ≡ 0
-      → startOf s on (kind.MoveToLevel r) ≡ Fades c t T → Starting (eventOf s (event at on (kind.MoveToLevel r))) c t T
+      → startOf s on (kind.MoveToLevel r) ≡ Fades c t T → Starting (eventOf s (event at on (kind.MoveToLevel r))) at c t T
   unfolding startOf run movedToLevel accept commandTestsOf moveToLevelTests
   move-to-level-starts r z e =
       let lets = when-fades (leb 255 (r .level) || passes s (r .«with_on_off») on (r .«options_mask») (r .«options_override»))
@@ -182,41 +185,41 @@ module _ (s : LevelControlState) (at : Micros) (on : Bool) (c t T : ℕ) where
       record {
         told = quiet (accept s at);
         request = requestTo (accept s at) (r .level) (timeOr (r .«transition_time») (tenths 0)) (r .«with_on_off») false false;
-        at = at;
         on = on;
         outcome = event-runs s (event at on (kind.MoveToLevel r)) z (not-stopped (r .level) _ pass);
         level = from .level;
         target = target-is s (r .level) ∙ from .target;
         time = given-is (r .«transition_time») (tenths 0) ∙ from .time;
         apart = λ q. from .apart (q ∙ target-is s (r .level));
+        last = refl;
       }
 
   off-starts : numberOf s (event at on (kind.OnOffChanged false)) ≡ 0
-      → startOf s on (kind.OnOffChanged false) ≡ Fades c t T → Starting (eventOf s (event at on (kind.OnOffChanged false))) c t T
+      → startOf s on (kind.OnOffChanged false) ≡ Fades c t T → Starting (eventOf s (event at on (kind.OnOffChanged false))) at c t T
   unfolding startOf run switched turnedOff offTime accept commandTestsOf
   off-starts z e =
       let from = from-fades _ _ _ c t T e in
       record {
         told = quiet (accept s at);
         request = requestTo (accept s at) (s .settings .«min_level») (offTime (accept s at)) true false true;
-        at = at;
         on = on;
         outcome = event-runs s (event at on (kind.OnOffChanged false)) z refl;
         level = from .level;
         target = target-is s (s .settings .«min_level») ∙ from .target;
         time = given-is (s .attributes .«off_transition_time») (s .attributes .«on_off_transition_time») ∙ from .time;
         apart = λ q. from .apart (q ∙ target-is s (s .settings .«min_level»));
+        last = refl;
       }
 
   scene-starts : (r : SceneRequest) → numberOf s (event at on (kind.Scene r)) ≡ 0
-      → startOf s on (kind.Scene r) ≡ Fades c t T → Starting (eventOf s (event at on (kind.Scene r))) c t T
+      → startOf s on (kind.Scene r) ≡ Fades c t T → Starting (eventOf s (event at on (kind.Scene r))) at c t T
   unfolding startOf run recalled accept commandTestsOf sceneTests
   scene-starts r z e = by (r .level) refl
     where
       none : OptionsBitmap
       none = record { 0 = 0 }
 
-      by : (l : Level) → r .level ≡ l → Starting (eventOf s (event at on (kind.Scene r))) c t T
+      by : (l : Level) → r .level ≡ l → Starting (eventOf s (event at on (kind.Scene r))) at c t T
       by (Known level) q =
           let named : sceneStart (Known level) s on (r .«transition_time» .0) ≡ Fades c t T = rw q at e in
           let lets = when-fades (leb 255 level || passes s false on none none)
@@ -227,25 +230,25 @@ module _ (s : LevelControlState) (at : Micros) (on : Bool) (c t T : ℕ) where
           record {
             told = quiet (accept s at);
             request = requestTo (accept s at) level (tenthsDown (r .«transition_time»)) false true false;
-            at = at;
             on = on;
             outcome = event-runs s (event at on (kind.Scene r)) z free ∙ ap (λ (l : Level). recalledAt l (accept s at) r at on) q;
             level = from .level;
             target = target-is s level ∙ from .target;
             time = from .time;
             apart = λ x. from .apart (x ∙ target-is s level);
+            last = refl;
           }
       by Missing q = no-fade c t T (rw q at e)
 
   step-starts : (r : StepRequest) → numberOf s (event at on (kind.Step r)) ≡ 0
-      → startOf s on (kind.Step r) ≡ Fades c t T → Starting (eventOf s (event at on (kind.Step r))) c t T
+      → startOf s on (kind.Step r) ≡ Fades c t T → Starting (eventOf s (event at on (kind.Step r))) at c t T
   unfolding startOf run stepped accept commandTestsOf stepTests numberOf stepOverflows steppedTime steppedLevel
   step-starts r z e = by (s .«current_level») refl
     where
       pass : Bool
       pass = passes s (r .«with_on_off») on (r .«options_mask») (r .«options_override»)
 
-      by : (l : Level) → s .«current_level» ≡ l → Starting (eventOf s (event at on (kind.Step r))) c t T
+      by : (l : Level) → s .«current_level» ≡ l → Starting (eventOf s (event at on (kind.Step r))) at c t T
       by (Known level) q =
           let lets = when-fades pass (stepStart (s .«current_level») s r) c t T e in
           let named : stepStart (Known level) s r ≡ Fades c t T = ap (λ (l : Level). stepStart l s r) (sym q) ∙ lets .1 in
@@ -257,7 +260,6 @@ module _ (s : LevelControlState) (at : Micros) (on : Bool) (c t T : ℕ) where
           record {
             told = quiet (accept s at);
             request = requestTo (accept s at) (steppedLevel s level r) (took .0) (r .«with_on_off») false false;
-            at = at;
             on = on;
             outcome =
                 event-runs s (event at on (kind.Step r)) z free
@@ -267,13 +269,14 @@ module _ (s : LevelControlState) (at : Micros) (on : Bool) (c t T : ℕ) where
             target = target-is s (steppedLevel s level r) ∙ ap (target s) (step-is s level r) ∙ from .target;
             time = took .2 ∙ ap (λ (x : ℕ). stepIn (r .«transition_time») (distance x level) (r .«step_size»)) (step-is s level r) ∙ from .time;
             apart = λ x. from .apart (x ∙ target-is s (steppedLevel s level r) ∙ ap (target s) (step-is s level r));
+            last = refl;
           }
         where
           freed : pass ≡ true → not (continues s (r .«with_on_off») on (r .«options_mask») (r .«options_override»)) ≡ false
           freed h = rw (continues-is s (r .«with_on_off») on (r .«options_mask») (r .«options_override»), h) refl
       by Missing q = no-fade c t T (ap (λ (l : Level). stepStart l s r) (sym q) ∙ when-fades pass (stepStart (s .«current_level») s r) c t T e .1)
 
-  pub direct-starts : (k : EventKind) → numberOf s (event at on k) ≡ 0 → startOf s on k ≡ Fades c t T → Starting (eventOf s (event at on k)) c t T
+  pub direct-starts : (k : EventKind) → numberOf s (event at on k) ≡ 0 → startOf s on k ≡ Fades c t T → Starting (eventOf s (event at on k)) at c t T
   unfolding startOf
   direct-starts kind.StartUp z e = no-fade c t T e
   direct-starts (kind.MoveToLevel r) z e = move-to-level-starts r z e
@@ -313,58 +316,93 @@ refused-stays s (e ∷ es) h =
     let same : eventOf s e .state ≡ s = ap (λ (o : Outcome). o .state) (event-refused s e ne) in
     refused-stays (eventOf s e .state) es others ∙ same
 
-module _ (s : LevelControlState) (at₀ at : Micros) (on : Bool) (v c t T : ℕ) where
-  answered-is : numberOf (reacting s at₀) (event at on (kind.Answer (device.Level v))) ≡ 0
-      → eventOf (reacting s at₀) (event at on (kind.Answer (device.Level v)))
-      ≡ onGoesOn (toldLevel (accept (reacting s at₀) at) (Known v) at false) (record { before = s .«current_level» }) at on
-  unfolding run answered onAnswered accept withTask commandTestsOf
-  answered-is z = event-runs (reacting s at₀) (event at on (kind.Answer (device.Level v))) z refl
+-- the answer v in any state in which the on reaction's request is open, with the level before
+module _ (s : LevelControlState) (before : Level) (at : Micros) (on : Bool) (v : ℕ) where
+  abbrev pub told : Told
+  told = toldLevel (accept s at) (Known v) at false
 
-  abbrev told : Told
-  told = toldLevel (accept (reacting s at₀) at) (Known v) at false
+  abbrev pub onAnswer : Outcome
+  onAnswer = onGoesOn told (record { before = before }) at on
+
+  abbrev onRequest : ℕ → FadeRequest
+  onRequest l = requestTo (told .state) l (onTime (told .state)) true false false
+
+  -- what part 9 names when it leads to a level
+  abbrev onGiven : ℕ
+  onGiven = givenOr (s .attributes .«on_transition_time») (s .attributes .«on_off_transition_time» .0)
+
+  abbrev toLevel : ℕ → Start
+  toLevel l = startFrom (Known v) (target s l) onGiven
+
+  -- "to `on_level`, else to the level before", or there is nothing to return to
+  returns : (o b : Level) → ((l : ℕ) × (levelOr o b ≡ Known l) × (onStartAt o b s v ≡ toLevel l)) ⊎ ((levelOr o b ≡ Missing) × (onStartAt o b s v ≡ NoFade))
+  unfolding levelOr
+  returns (Known l) b = inl (l, refl, refl)
+  returns Missing (Known l) = inl (l, refl, refl)
+  returns Missing Missing = inr (refl, refl)
+
+  goes-to : (l : Level) → levelOr (s .attributes .«on_level») before ≡ l → onAnswer ≡ onTo l told at on
+  unfolding onGoesOn toldLevel setLevel withAnswered accept
+  goes-to l q = ap (λ (x : Level). onTo x told at on) q
 
   told-level : told .state .«current_level» ≡ Known v
   unfolding toldLevel setLevel withAnswered
   told-level = refl
 
-  told-settings : told .state .settings ≡ s .settings
-  unfolding toldLevel setLevel withAnswered accept withTask
-  told-settings = refl
+  told-last : told .state .«last_accepted» ≡ at
+  unfolding toldLevel setLevel withAnswered accept
+  told-last = refl
 
-  told-attributes : told .state .attributes ≡ s .attributes
-  unfolding toldLevel setLevel withAnswered accept withTask
-  told-attributes = refl
+  on-target : (l : ℕ) → onRequest l .target ≡ target s l
+  unfolding toldLevel setLevel withAnswered accept
+  on-target l = target-is s l
 
-  -- to a level, in the on time
-  on-to : (l : ℕ) → levelOr (told .state .attributes .«on_level») (s .«current_level») ≡ Known l
-      → startFrom (Known v) (target s l) (givenOr (s .attributes .«on_transition_time») (s .attributes .«on_off_transition_time» .0)) ≡ Fades c t T
-      → numberOf (reacting s at₀) (event at on (kind.Answer (device.Level v))) ≡ 0
-      → Starting (eventOf (reacting s at₀) (event at on (kind.Answer (device.Level v)))) c t T
-  unfolding onGoesOn onTime toldLevel setLevel withAnswered accept withTask
-  on-to l q e z =
-      let from = from-fades _ _ _ c t T e in
-      record {
-        told = told;
-        request = requestTo (told .state) l (onTime (told .state)) true false false;
-        at = at;
-        on = on;
-        outcome = answered-is z ∙ ap (λ (x : Level). onTo x told at on) q;
-        level = told-level ∙ from .level;
-        target = target-is s l ∙ from .target;
-        time = given-is (s .attributes .«on_transition_time») (s .attributes .«on_off_transition_time») ∙ from .time;
-        apart = λ x. from .apart (x ∙ target-is s l);
-      }
+  on-time : onTime (told .state) .0 ≡ onGiven
+  unfolding onTime toldLevel setLevel withAnswered accept
+  on-time = given-is (s .attributes .«on_transition_time») (s .attributes .«on_off_transition_time»)
 
-  pub on-starts : onStart s v ≡ Fades c t T → numberOf (reacting s at₀) (event at on (kind.Answer (device.Level v))) ≡ 0
-      → Starting (eventOf (reacting s at₀) (event at on (kind.Answer (device.Level v)))) c t T
-  unfolding onStart
-  on-starts e z = by (s .attributes .«on_level») refl (s .«current_level») refl
+  pub on-starts : (c t T : ℕ) → onStartAt (s .attributes .«on_level») before s v ≡ Fades c t T → Starting onAnswer at c t T
+  on-starts c t T e = by (returns (s .attributes .«on_level») before)
     where
-      by : (o : Level) → s .attributes .«on_level» ≡ o → (b : Level) → s .«current_level» ≡ b
-          → Starting (eventOf (reacting s at₀) (event at on (kind.Answer (device.Level v)))) c t T
-      by (Known l) p b q = on-to l (level-or-known (told .state .attributes .«on_level») (s .«current_level») l (ap (λ (a : Attributes). a .«on_level») told-attributes ∙ p))
-          (ap (λ (o : Level). onStartAt o (s .«current_level») s v) (sym p) ∙ e) z
-      by Missing p (Known l) q = on-to l
-          (level-or-missing (told .state .attributes .«on_level») (s .«current_level») (ap (λ (a : Attributes). a .«on_level») told-attributes ∙ p) ∙ q)
-          (ap (λ (b : Level). onStartAt Missing b s v) (sym q) ∙ ap (λ (o : Level). onStartAt o (s .«current_level») s v) (sym p) ∙ e) z
-      by Missing p Missing q = no-fade c t T (ap (λ (b : Level). onStartAt Missing b s v) (sym q) ∙ ap (λ (o : Level). onStartAt o (s .«current_level») s v) (sym p) ∙ e)
+      by : ((l : ℕ) × (levelOr (s .attributes .«on_level») before ≡ Known l) × (onStartAt (s .attributes .«on_level») before s v ≡ toLevel l))
+          ⊎ ((levelOr (s .attributes .«on_level») before ≡ Missing) × (onStartAt (s .attributes .«on_level») before s v ≡ NoFade))
+          → Starting onAnswer at c t T
+      by (inl (l, q, n)) =
+          let from = from-fades _ _ _ c t T (sym n ∙ e) in
+          record {
+            told = told;
+            request = onRequest l;
+            on = on;
+            outcome = goes-to (Known l) q;
+            level = told-level ∙ from .level;
+            target = on-target l ∙ from .target;
+            time = on-time ∙ from .time;
+            apart = λ x. from .apart (x ∙ on-target l);
+            last = told-last;
+          }
+      by (inr (q, n)) = no-fade c t T (sym n ∙ e)
+
+  -- and where part 9 names none, the task ends
+  pub on-rests : onStartAt (s .attributes .«on_level») before s v ≡ NoFade → onAnswer .state .task ≡ task.Rest
+  unfolding withTask
+  on-rests e = by (returns (s .attributes .«on_level») before)
+    where
+      by : ((l : ℕ) × (levelOr (s .attributes .«on_level») before ≡ Known l) × (onStartAt (s .attributes .«on_level») before s v ≡ toLevel l))
+          ⊎ ((levelOr (s .attributes .«on_level») before ≡ Missing) × (onStartAt (s .attributes .«on_level») before s v ≡ NoFade))
+          → onAnswer .state .task ≡ task.Rest
+      by (inl (l, q, n)) =
+          ap (λ (o : Outcome). o .state .task) (goes-to (Known l) q)
+          ∙ go-to-rests told (onRequest l) at on onGiven
+          (ap (λ (x : ℕ). startFrom (told .state .«current_level») x onGiven) (on-target l)
+          ∙ ap (λ (x : Level). startFrom x (target s l) onGiven) told-level
+          ∙ sym n
+          ∙ e)
+      by (inr (q, n)) = ap (λ (o : Outcome). o .state .task) (goes-to Missing q)
+
+pub on-answered-is : (s : LevelControlState) (r : OnReaction) (at : Micros) (on : Bool) (v : ℕ) → s .task ≡ task.OnReaction r
+    → numberOf s (event at on (kind.Answer (device.Level v))) ≡ 0
+    → eventOf s (event at on (kind.Answer (device.Level v))) ≡ onAnswer s (r .before) at on v
+unfolding run answered onAnswered accept commandTestsOf
+on-answered-is s r at on v q z =
+    event-runs s (event at on (kind.Answer (device.Level v))) z refl
+    ∙ ap (λ (x : Task). answeredIn x (accept s at) (device.Level v) at on) q
