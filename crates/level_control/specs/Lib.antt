@@ -14,9 +14,4 @@ pub mod Run
 pub mod Orders
 pub mod Demand1
 pub mod Demand3
-pub mod Covered
-pub mod Replies
-pub mod Uninterrupted
-pub mod FadeTheorems
-pub mod Instances
 pub mod Keys

@@ -1,0 +1,13 @@
+pub mod PathTheorem
+pub mod Acceptance
+pub mod TaskLaws
+pub mod Coverage
+pub mod EveryFadeCovered
+pub mod StartTimes
+pub mod ExactKey
+pub mod Uninterrupted
+pub mod Progress
+pub mod ReactionsCovered
+pub mod TaskAgrees
+pub mod PlayedInstances
+pub mod WaitsEnd

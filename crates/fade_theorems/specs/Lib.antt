@@ -1,0 +1,5 @@
+pub mod Covered
+pub mod Replies
+pub mod Uninterrupted
+pub mod FadeTheorems
+pub mod Instances

@@ -1,9 +1,0 @@
-use Rattle.level_control.proofs.Acceptance.{wakes-accepted}
-use Rattle.level_control.proofs.theorems.wakes_are_accepted.Statement.{statement}
-use Rattle.level_control.proofs.theorems.wakes_are_accepted.Tie as tie
-
-returns : tie.Need-returns
-returns c = wakes-accepted
-
-pub wakes-are-accepted-spec : {M : Type 1} → statement M
-wakes-are-accepted-spec = tie.close (tie.spec returns)

@@ -1,0 +1,9 @@
+pub mod ByteLaws
+pub mod EventLaws
+pub mod NumberLaws
+pub mod LayoutLaws
+pub mod HeadLaws
+pub mod FitLaws
+pub mod MissingLaws
+pub mod WrittenLaws
+pub mod RecordLaws

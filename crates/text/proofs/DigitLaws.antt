@@ -1,0 +1,124 @@
+-- Laws of decimal digits: those of x from those of x / 10, how many there are, and what they read as. Assumes nothing.
+use Prim.Native.Nat.{ℕ, zero, suc, _+_, _-_, _*_, _/_, _%_, _^_, _≤_, _<_, zero-le}
+use Prim.Native.Char.{code}
+use mathlib.Core.Path.{_≡_, refl, sym, ap, _∙_}
+use mathlib.Core.Bool.{Bool, true, false}
+use mathlib.Core.List.{List, [], _∷_, _++_}
+use native.Mathlib.Nat.{pow-succ'}
+use native.Mathlib.Omega.{arith}
+use borrow.Author.Tests.{lt-ltb, le-ltb, ltb-true, ltb-false}
+use lib.Dec.{ltb}
+use lib.ListN.{length, getD, length-append, List·getD-append}
+use Rattle.text.specs.Text.{Wrote, most, digits, digitsWithin}
+use Rattle.text.specs.Laws.{readAfter, readDigits, All, Digit}
+use Rattle.text.proofs.WriteLaws.{then}
+
+by-bool : {G : Type 0} (t : Bool) → (t ≡ true → G) → (t ≡ false → G) → G
+by-bool true f g = f refl
+by-bool false f g = g refl
+
+-- a number is below another, or not
+by-test : {G : Type 0} (a b : ℕ) → (a < b → G) → (b ≤ a → G) → G
+by-test a b f g = by-bool (ltb a b) (λ e. f (ltb-true a b e)) (λ e. g (ltb-false a b e))
+
+within-one : (k x : ℕ) → x < 10 → digitsWithin (suc k) x ≡ (code "0" + x) ∷ []
+unfolding digitsWithin
+within-one k x h = rw (lt-ltb x 10 h)
+
+within-more : (k x : ℕ) → 10 ≤ x → digitsWithin (suc k) x ≡ digitsWithin k (x / 10) ++ ((code "0" + x % 10) ∷ [])
+unfolding digitsWithin
+within-more k x h = rw (le-ltb x 10 h)
+
+-- one place more than enough changes nothing
+enough : (k x : ℕ) → x < 10 ^ suc k → digitsWithin (suc (suc k)) x ≡ digitsWithin (suc k) x
+enough zero x h =
+    let small : x < 10 = omega arith in
+    within-one 1 x small ∙ sym (within-one 0 x small)
+enough (suc k) x h = by-test x 10
+    (λ g. within-one (suc (suc k)) x g ∙ sym (within-one (suc k) x g))
+    (λ g. rw (within-more (suc (suc k)) x g, within-more (suc k) x g, enough k (x / 10) (omega (arith, pow-succ' 10 (suc k)))))
+
+pub digits-one : (x : ℕ) → x < 10 → digits x ≡ (code "0" + x) ∷ []
+unfolding digits
+digits-one x h = within-one 19 x h
+
+pub digits-more : (x : ℕ) → x < 2 ^ 64 → 10 ≤ x → digits x ≡ digits (x / 10) ++ ((code "0" + x % 10) ∷ [])
+unfolding digits
+digits-more x b h = within-more 19 x h ∙ ap (λ (l : List ℕ). l ++ ((code "0" + x % 10) ∷ [])) (sym (enough 18 (x / 10) (omega arith)))
+
+-- a number below 10^(k+1) has at most k+1 digits, and none has more than 20
+within-length : (j k x : ℕ) → x < 10 ^ suc k → length (digitsWithin j x) ≤ suc k
+unfolding digitsWithin
+within-length zero k x h = zero-le
+within-length (suc j) zero x h = rw (within-one j x (omega arith)) (omega arith)
+within-length (suc j) (suc k) x h = by-test x 10
+    (λ g. rw (within-one j x g) (omega arith))
+    (λ g. rw (within-more j x g, length-append) (omega (arith, within-length j k (x / 10) (omega (arith, pow-succ' 10 (suc k))))))
+
+within-at-most : (j x : ℕ) → length (digitsWithin j x) ≤ j
+unfolding digitsWithin
+within-at-most zero x = zero-le
+within-at-most (suc j) x = by-test x 10
+    (λ g. rw (within-one j x g) (omega arith))
+    (λ g. rw (within-more j x g, length-append) (omega (arith, within-at-most j (x / 10))))
+
+pub digits-below : (k x : ℕ) → x < 10 ^ suc k → length (digits x) ≤ suc k
+unfolding digits
+digits-below k x h = within-length 20 k x h
+
+pub digits-at-most : (x : ℕ) → length (digits x) ≤ 20
+unfolding digits
+digits-at-most x = within-at-most 20 x
+
+-- the digits of x / 10, and the last digit after them
+pub decimal-more : (x : ℕ) {old mid new : List ℕ} {at p r : ℕ} → x < 2 ^ 64 → 10 ≤ x → length old ≤ most
+    → Wrote old at (digits (x / 10)) mid p → Wrote mid p ((code "0" + x % 10) ∷ []) new r → Wrote old at (digits x) new r
+decimal-more x b g h w v = rw (digits-more x b g) (then h w v)
+
+-- the last digit counts one, those before it ten
+read-last : (n : ℕ) (ds : List ℕ) (d : ℕ) → readAfter n (ds ++ (d ∷ [])) ≡ 10 * readAfter n ds + (d - code "0")
+read-last n [] d = refl
+read-last n (e ∷ ds) d = read-last (10 * n + (e - code "0")) ds d
+
+within-read : (k x : ℕ) → x < 10 ^ suc k → readDigits (digitsWithin (suc k) x) ≡ x
+within-read zero x h = rw (within-one 0 x (omega arith)) (omega arith)
+within-read (suc k) x h = by-test x 10
+    (λ g. rw (within-one (suc k) x g) (omega arith))
+    (λ g. rw (within-more (suc k) x g, read-last 0 (digitsWithin (suc k) (x / 10)) (code "0" + x % 10))
+    (omega (arith, within-read k (x / 10) (omega (arith, pow-succ' 10 (suc k))))))
+
+pub digits-read : (x : ℕ) → x < 2 ^ 64 → readDigits (digits x) ≡ x
+unfolding digits
+digits-read x h = within-read 19 x (omega arith)
+
+pub all-append : (Such : ℕ → Type 0) (a b : List ℕ) → All Such a → All Such b → All Such (a ++ b)
+all-append Such [] b p q = q
+all-append Such (x ∷ a) b p q = (p .0, all-append Such a b (p .1) q)
+
+within-only : (k x : ℕ) → All Digit (digitsWithin k x)
+unfolding digitsWithin
+within-only zero x = tt
+within-only (suc k) x = by-test x 10
+    (λ g. rw (within-one k x g) ((omega arith, omega arith), tt))
+    (λ g. rw (within-more k x g) (all-append Digit (digitsWithin k (x / 10)) ((code "0" + x % 10) ∷ []) (within-only k (x / 10)) ((omega arith, omega arith), tt)))
+
+pub digits-only : (x : ℕ) → All Digit (digits x)
+unfolding digits
+digits-only x = within-only 20 x
+
+-- some digit stands before the last
+within-some : (k x : ℕ) → 1 ≤ length (digitsWithin (suc k) x)
+within-some k x = by-test x 10
+    (λ g. rw (within-one k x g) (omega arith))
+    (λ g. rw (within-more k x g, length-append) (omega arith))
+
+within-first : (k x : ℕ) → x < 10 ^ suc k → 1 ≤ x → code "0" < getD (digitsWithin (suc k) x) 0 (code "0")
+within-first zero x h p = rw (within-one 0 x (omega arith)) (omega arith)
+within-first (suc k) x h p = by-test x 10
+    (λ g. rw (within-one (suc k) x g) (omega arith))
+    (λ g. rw (within-more (suc k) x g, List·getD-append (digitsWithin (suc k) (x / 10)) ((code "0" + x % 10) ∷ []) (code "0") 0 (within-some k (x / 10)))
+    (within-first k (x / 10) (omega (arith, pow-succ' 10 (suc k))) (omega arith)))
+
+pub first-digit : (x : ℕ) → x < 2 ^ 64 → 10 ≤ x → getD (digits x) 0 (code "0") ≡ code "0" → ⊥
+unfolding digits
+first-digit x b h e = omega (arith, within-first 19 x (omega arith) (omega arith))

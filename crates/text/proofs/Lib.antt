@@ -1,0 +1,5 @@
+pub mod WriteLaws
+pub mod DigitLaws
+pub mod LineLaws
+pub mod ShowLaws
+pub mod TextLaws

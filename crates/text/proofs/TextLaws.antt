@@ -1,0 +1,36 @@
+-- The text in document 01's words: proofs of specs/Laws.antt. Assumes nothing.
+use Prim.Native.Nat.{ℕ, _+_, _≤_, _<_}
+use mathlib.Core.Path.{_≡_, refl, _∙_}
+use mathlib.Core.Logic.{_↔_}
+use mathlib.Core.List.{List, _++_}
+use native.Mathlib.Omega.{arith}
+use lib.ListN.{length, take, drop}
+use lib.Seq.{sets-eq}
+use Rattle.text.specs.Text.{most, Wrote, digits, digitsWithin}
+use Rattle.text.specs.Line.{levelText, actionText, actionsText, lineOf}
+use Rattle.text.specs.Laws.{Laws}
+use Rattle.text.proofs.DigitLaws.{digits-read, digits-only, first-digit, digits-below}
+use Rattle.text.proofs.LineLaws.{line-length}
+use Rattle.text.proofs.ShowLaws.{line-shows}
+
+stands : (old : List ℕ) (at : ℕ) (text new : List ℕ) (r : ℕ) → length old ≤ most → Wrote old at text new r → at + length text ≤ length old
+    → (new ≡ take at old ++ text ++ drop (at + length text) old) × (r ≡ at + length text)
+stands old at text new r h w f = (w .bytes ∙ sets-eq text old at f, omega (arith, w .next))
+
+too-long : (old : List ℕ) (at : ℕ) (text new : List ℕ) (r : ℕ) → length old < most → Wrote old at text new r
+    → (length old < r) ↔ (length old < at + length text)
+too-long old at text new r h w = (λ l. omega (arith, w .next), λ l. omega (arith, w .next))
+
+pub text-laws : Laws
+unfolding lineOf levelText actionText actionsText digits digitsWithin
+text-laws = record {
+  digits-read = digits-read;
+  digits-only = digits-only;
+  no-leading-zero = first-digit;
+  digits-length = digits-below;
+  line-shows = line-shows;
+  line-length = line-length;
+  sheet = refl;
+  stands = stands;
+  too-long = too-long;
+}

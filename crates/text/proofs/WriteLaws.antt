@@ -1,0 +1,41 @@
+-- Laws of `Wrote`: one text after another, and how far a text moves the position. Assumes nothing.
+use Prim.Native.Nat.{ℕ, suc, _+_, _≤_}
+use mathlib.Core.Path.{_≡_, refl, sym, _∙_}
+use mathlib.Core.List.{List, [], _∷_, _++_}
+use native.Mathlib.Nat.{add-zero, add-suc, suc-add}
+use native.Mathlib.Omega.{arith, min-cases}
+use lib.ListN.{length, set, length-append}
+use lib.Seq.{sets, length-sets, set-out}
+use Rattle.text.specs.Text.{Wrote, most}
+
+-- past the end nothing is written
+sets-out : (l : List ℕ) (i : ℕ) (vs : List ℕ) → length l ≤ i → sets l i vs ≡ l
+sets-out l i [] h = refl
+sets-out l i (v ∷ vs) h = rw (set-out l i v h) (sets-out l (suc i) vs (omega arith))
+
+sets-append : (l : List ℕ) (i : ℕ) (a b : List ℕ) → sets (sets l i a) (i + length a) b ≡ sets l i (a ++ b)
+sets-append l i [] b = rw add-zero
+sets-append l i (v ∷ a) b = rw (add-suc, ← suc-add) (sets-append (set l i v) (suc i) a b)
+
+-- one text after another is their concatenation
+pub then : {old : List ℕ} {at : ℕ} {a mid : List ℕ} {p : ℕ} {b new : List ℕ} {r : ℕ}
+    → length old ≤ most → Wrote old at a mid p → Wrote mid p b new r → Wrote old at (a ++ b) new r
+then {old} {at} {a} {mid} {p} {b} {new} {r} h w v = record {
+  bytes = both;
+  next = simp length-append (omega (arith, w .next, v .next));
+}
+  where
+    both : new ≡ sets old at (a ++ b)
+    both = min-cases (at + length a) most (new ≡ sets old at (a ++ b))
+        (λ g e. v .bytes ∙ rw (w .bytes, w .next, e) (sets-append old at a b))
+        (λ g e. v .bytes ∙ rw (w .bytes, w .next, e) (sets-out (sets old at a) most b (simp length-sets h)
+        ∙ sym (sets-out (sets old at a) (at + length a) b (simp length-sets (omega arith)))
+        ∙ sets-append old at a b))
+
+-- nothing written
+pub none-wrote : {old : List ℕ} {at : ℕ} → at ≤ most → Wrote old at [] old at
+none-wrote h = record { bytes = refl; next = omega arith }
+
+-- a text moves the position by its length at most
+pub at-most : {old new text : List ℕ} {at r n : ℕ} → Wrote old at text new r → length text ≤ n → r ≤ at + n
+at-most w h = omega (arith, w .next)
