@@ -31,10 +31,41 @@ pub struct State {
     pub previous: Option<u8>,
 }
 
+/// What a play leaves behind.
+#[derive(Clone, Copy, Default, PartialEq)]
+pub enum Keep {
+    #[default]
+    Lines,
+    /// With the whole state after each.
+    LinesAndState,
+    /// No text, but all that the lines are made of is read.
+    Tally,
+    /// Nor is anything read: the handler runs, and its actions are counted.
+    BareTally,
+}
+
+impl Keep {
+    fn has_text(self) -> bool {
+        matches!(self, Keep::Lines | Keep::LinesAndState)
+    }
+}
+
+/// The sums of a play's lines.
+#[derive(Clone, Copy, Debug, Default, PartialEq)]
+pub struct Tally {
+    pub lines: usize,
+    pub numbers: usize,
+    pub actions: usize,
+    /// Of the known levels.
+    pub levels: usize,
+    /// Of the remaining times.
+    pub tenths: usize,
+}
+
 #[derive(Default)]
-struct Play {
+pub struct Play {
     events: std::vec::IntoIter<Record>,
-    print_state: bool,
+    keep: Keep,
     lamp: Option<Rc<dyn Lamp>>,
     /// Of the event in hand, counted from 1.
     index: usize,
@@ -47,9 +78,12 @@ struct Play {
     message: Option<OutOfBandMessage>,
     cluster_reported: bool,
     actions: Vec<String>,
+    /// How many there are, also where they are not kept.
+    action_count: usize,
     looking: bool,
     state: State,
-    sheet: String,
+    pub sheet: String,
+    pub tally: Tally,
 }
 
 thread_local! {
@@ -60,11 +94,13 @@ fn with<R>(f: impl FnOnce(&mut Play) -> R) -> R {
     PLAY.with_borrow_mut(f)
 }
 
-pub fn start(events: Vec<Record>, print_state: bool) {
+pub fn start(events: Vec<Record>, keep: Keep) {
     with(|play| {
         *play = Play {
             events: events.into_iter(),
-            print_state,
+            keep,
+            // As if a look were under way, so that no other begins.
+            looking: keep == Keep::BareTally,
             ..Play::default()
         }
     });
@@ -75,8 +111,8 @@ pub fn set_lamp(lamp: Rc<dyn Lamp>) {
     with(|play| play.lamp = Some(lamp));
 }
 
-pub fn take_sheet() -> String {
-    with(std::mem::take).sheet
+pub fn take() -> Play {
+    with(std::mem::take)
 }
 
 pub fn index() -> usize {
@@ -94,11 +130,16 @@ pub fn on_off() -> bool {
 }
 
 pub fn act(action: impl Display) {
-    with(|play| play.actions.push(action.to_string()));
+    with(|play| {
+        play.action_count += 1;
+        if play.keep.has_text() {
+            play.actions.push(action.to_string());
+        }
+    });
 }
 
 pub fn actions() -> usize {
-    with(|play| play.actions.len())
+    with(|play| play.action_count)
 }
 
 pub fn attribute_reported(attribute: u32) {
@@ -250,14 +291,29 @@ pub fn accept() {
 }
 
 pub fn write_line(number: u8) {
+    let bare = with(|play| {
+        let actions = std::mem::take(&mut play.action_count);
+        assert!(actions <= 7, "more than seven actions");
+        play.tally.lines += 1;
+        play.tally.numbers += usize::from(number);
+        play.tally.actions += actions;
+        play.keep == Keep::BareTally
+    });
+    if bare {
+        return;
+    }
     let level = with(|play| play.lamp.clone()).expect("a lamp").level();
     with(|play| {
+        play.tally.levels += level.map_or(0, usize::from);
+        play.tally.tenths += usize::from(play.state.remaining);
+        if !play.keep.has_text() {
+            return;
+        }
         let actions = std::mem::take(&mut play.actions);
         let coupled = actions
             .iter()
             .filter(|action| action.starts_with('C'))
             .count();
-        assert!(actions.len() <= 7, "more than seven actions");
         assert!(
             coupled <= 1,
             "two C in one event: the second would see a stale on/off value"
@@ -274,7 +330,7 @@ pub fn write_line(number: u8) {
             write!(play.sheet, " {action}").unwrap();
         }
         play.sheet.push('\n');
-        if play.print_state {
+        if play.keep == Keep::LinesAndState {
             writeln!(play.sheet, "  = {}", play.state).unwrap();
         }
     });

@@ -155,10 +155,10 @@ reacting-starts s at₀ at on v c t T named z =
 
 -- the answer after event 7 (on) and refused events, in the state that they leave
 module _ (s : LevelControlState) (at₀ at : Micros) (on₀ on : Bool) (es : List Event) (v c t T : ℕ) where
-  abbrev left : EventKind → LevelControlState
+  abbrev pub left : EventKind → LevelControlState
   left k = stateAfter (eventOf s (event at₀ on₀ k) .state) es
 
-  abbrev Answers : EventKind → EventKind → Type 0
+  abbrev pub Answers : EventKind → EventKind → Type 0
   Answers k a =
       accepted s (event at₀ on₀ k) ≡ true → allRefused (eventOf s (event at₀ on₀ k) .state) es ≡ true → accepted (left k) (event at on a) ≡ true
       → Starting (eventOf (left k) (event at on a)) at c t T
@@ -174,7 +174,7 @@ module _ (s : LevelControlState) (at₀ at : Micros) (on₀ on : Bool) (es : Lis
       subst (λ (x : LevelControlState). Starting (eventOf x (event at on (kind.Answer (device.Level v)))) at c t T) (sym same)
       (reacting-starts s at₀ at on v c t T named z)
 
-  after-on-starts : (k a : EventKind) → k ≡ kind.OnOffChanged true → a ≡ kind.Answer (device.Level v) → onStart s v ≡ Fades c t T → Answers k a
+  pub after-on-starts : (k a : EventKind) → k ≡ kind.OnOffChanged true → a ≡ kind.Answer (device.Level v) → onStart s v ≡ Fades c t T → Answers k a
   after-on-starts k a q r named =
       subst (λ (x : EventKind). Answers x a) (sym q) (subst (λ (x : EventKind). Answers (kind.OnOffChanged true) x) (sym r) (on-answers named))
 

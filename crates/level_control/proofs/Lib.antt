@@ -6,11 +6,3 @@ pub mod EventLaws
 pub mod FadeInvariant
 pub mod StartLaws
 pub mod EveryFade
-pub mod KeyLaws
-pub mod LevelLaws
-pub mod PatternLaws
-pub mod ShapeLaws
-pub mod OrderLaws
-pub mod AnswerOrderLaws
-pub mod WaitLaws
-pub mod Demand1Laws

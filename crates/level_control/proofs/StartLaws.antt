@@ -57,7 +57,7 @@ use Rattle.level_control.proofs.EventLaws.{event-refused, event-runs, e
 pub no-fade : {A : Type 0} (c t T : ℕ) → NoFade ≡ Fades c t T → A
 no-fade c t T e = absurd (let z : _≡_ {A = ℕ} 0 1 = cc in omega arith)
 
-when-fades : (b : Bool) (x : Start) (c t T : ℕ) → when b x ≡ Fades c t T → (b ≡ true) × (x ≡ Fades c t T)
+pub when-fades : (b : Bool) (x : Start) (c t T : ℕ) → when b x ≡ Fades c t T → (b ≡ true) × (x ≡ Fades c t T)
 when-fades true x c t T e = (refl, e)
 when-fades false x c t T e = no-fade c t T e
 

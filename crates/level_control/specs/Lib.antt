@@ -11,7 +11,4 @@ pub mod Events
 pub mod Path
 pub mod Starts
 pub mod Run
-pub mod Orders
-pub mod Demand1
 pub mod Demand3
-pub mod Keys

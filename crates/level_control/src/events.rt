@@ -41,7 +41,7 @@ impl LevelControlState {
         }
     }
 
-    // Event 6: the end of a wait. (Without one it was refused: the state stays.)
+    // Event 6: the end of a wait. (Without one it was refused.)
     pub fn woken(self, at: Micros, on_off: bool) -> Answer
         ensures { λ r. ⌜ r ≡ packed (woken self at «on_off») ⌝ }
     {

@@ -11,4 +11,3 @@ pub mod reports;
 pub mod rest;
 pub mod state;
 pub mod targets;
-pub mod theorems;

@@ -77,7 +77,7 @@ impl LevelControlState {
         }
     }
 
-    // The stored level with P, S and L: an update, and an answer in a move or a reaction.
+    // The stored level with P, S and L: an answer in a move or a reaction.
     pub fn told_level(self, level: Level, now: Micros, is_end_of_transition: bool) -> Told
         ensures { λ r. ⌜ r ≡ toldLevel self level now «is_end_of_transition» ⌝ }
     {

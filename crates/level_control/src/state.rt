@@ -14,7 +14,7 @@ pub struct LevelControlState {
     pub attributes: Attributes,
     pub current_level: Level,
     pub remaining_time: Tenths,
-    // The level before the last request or update, noted for the quiet report.
+    // The level before the last answer or update, as the source notes it; no rule reads it.
     pub previous_current_level: Level,
     pub last_current_level_notification: Micros,
     pub last_accepted: Micros,

@@ -1,5 +1,8 @@
 // Replays a list of plays (oracle/README.md, "A list of plays") from standard input and says how many of its sheets are ours.
-// With an argument it prints our sheets instead, each under a line `# play N`, and passes over those of the list.
+// With an argument it prints our sheets instead, each under a line `# play N`, and passes over those of the list; with two, the whole state after each line.
+mod states;
+
+use crate::states::print_states;
 use libc::STDIN_FILENO;
 use libc::STDOUT_FILENO;
 use records::bytes::byte;
@@ -7,6 +10,12 @@ use records::bytes::u32_at;
 use sheet::key::key_sheet;
 use std::num::wrapping_add_u32;
 use text::front;
+
+pub enum Mode {
+    Compare,
+    Sheets,
+    States,
+}
 
 pub enum Verdict {
     Agrees,
@@ -50,14 +59,37 @@ fn cut(sum: u32) -> Play {
     }
 }
 
-fn print_sheet(index: u64, sheet: &[u8]) {
+fn print_title(index: u64) {
     io::write_all(STDOUT_FILENO, b"# play ");
     io::print_decimal(STDOUT_FILENO, index);
     io::write_all(STDOUT_FILENO, b"\n");
-    io::write_all(STDOUT_FILENO, sheet);
 }
 
-fn one(index: u64, before: u32, print: bool) -> Play {
+// What is done with a play: our sheet is held to the list's, or printed.
+fn show(index: u64, mode: Mode, records: &[u8], expected: &[u8]) -> Verdict {
+    let mut out = io::large_buffer();
+    let k = front(key_sheet(records, &mut out), &out);
+    match mode {
+        Mode::Compare => {
+            if check::same(&out[..k], expected) {
+                return Verdict::Agrees;
+            }
+            Verdict::Differs
+        }
+        Mode::Sheets => {
+            print_title(index);
+            io::write_all(STDOUT_FILENO, &out[..k]);
+            Verdict::Agrees
+        }
+        Mode::States => {
+            print_title(index);
+            print_states(records);
+            Verdict::Agrees
+        }
+    }
+}
+
+fn one(index: u64, before: u32, mode: Mode) -> Play {
     let mut head = [0u8; 8];
     if io::read_full(STDIN_FILENO, &mut head) < 8 {
         return cut(before);
@@ -76,34 +108,20 @@ fn one(index: u64, before: u32, print: bool) -> Play {
     let mut sum = add_bytes(before, &head);
     sum = add_bytes(sum, &played[..records]);
     sum = add_bytes(sum, &wanted[..expected]);
-    let mut out = io::large_buffer();
-    let k = front(key_sheet(&played[..records], &mut out), &out);
-    if print {
-        print_sheet(index, &out[..k]);
-        return Play {
-            verdict: Verdict::Agrees,
-            sum: sum,
-        };
-    }
-    if check::same(&out[..k], &wanted[..expected]) {
-        return Play {
-            verdict: Verdict::Agrees,
-            sum: sum,
-        };
-    }
+    let verdict = show(index, mode, &played[..records], &wanted[..expected]);
     Play {
-        verdict: Verdict::Differs,
+        verdict: verdict,
         sum: sum,
     }
 }
 
-fn all(count: u32, print: bool) -> Count {
+fn all(count: u32, mode: Mode) -> Count {
     let mut agree: u64 = 0;
     let mut differ: u64 = 0;
     let mut sum = 0;
     let mut left = count;
     while 0 < left {
-        let play = one(agree + differ + 1, sum, print);
+        let play = one(agree + differ + 1, sum, mode);
         sum = play.sum;
         let verdict = play.verdict;
         match verdict {
@@ -139,6 +157,16 @@ fn report(count: Count) {
     io::write_all(STDOUT_FILENO, b" differ\n");
 }
 
+fn mode_of(args: usize) -> Mode {
+    if args < 2 {
+        return Mode::Compare;
+    }
+    if args == 2 {
+        return Mode::Sheets;
+    }
+    Mode::States
+}
+
 fn main() {
     let mut mark = [0u8; 8];
     let mut head = [0u8; 8];
@@ -148,15 +176,15 @@ fn main() {
         io::write_all(STDOUT_FILENO, b"this is no list of plays\n");
         return;
     }
-    let print = 1 < os::arg_count();
-    let count = all(u32_at(&head, 0), print);
+    let args = os::arg_count();
+    let count = all(u32_at(&head, 0), mode_of(args));
     let mut more = [0u8; 1];
     let followed = io::read_full(STDIN_FILENO, &mut more);
     if !count.whole | (count.sum != u32_at(&head, 4)) | (0 < followed) {
         io::write_all(STDOUT_FILENO, b"the list is cut or damaged\n");
         return;
     }
-    if !print {
+    if args < 2 {
         report(count);
     }
 }

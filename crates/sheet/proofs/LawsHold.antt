@@ -20,7 +20,7 @@ use Rattle.sheet.specs.Play.{lengthOk, fitted, playWith, playOf, returne
 use Rattle.sheet.specs.declared.play.Played.{Played}
 use Rattle.sheet.specs.declared.play.Played.the-variants.{Text, Refused}
 use Rattle.sheet.specs.declared.play.Refusal.{Refusal}
-use Rattle.sheet.proofs.SheetLaws.{at-least, at-most, by-bool, never}
+use Rattle.sheet.proofs.SheetLaws.{at-least, at-most, never}
 
 twenties : (n : ℕ) → lengthOk n ≡ true → n % 20 ≡ 0
 unfolding lengthOk

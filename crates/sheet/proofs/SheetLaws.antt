@@ -2,17 +2,17 @@
 use Prim.Native.Nat.{ℕ, zero, suc, _+_, _-_, _<_, _≤_, min, zero-le}
 use mathlib.Core.Path.{_≡_, refl, sym, ap, _∙_}
 use mathlib.Core.List.{List, [], _++_}
-use mathlib.Core.Bool.{Bool, true, false}
+use mathlib.Core.Bool.{true, false}
 use native.Mathlib.Omega.{arith}
 use native.Mathlib.Nat.{zero-add}
-use lib.Dec.{ltb}
-use borrow.Author.Tests.{lt-ltb, le-ltb, le-leb, lt-leb, ltb-true, ltb-false}
+use borrow.Author.Tests.{lt-ltb, le-ltb, le-leb, lt-leb}
 use lib.ListN.{length, take, drop, length-drop}
 use lib.Seq.{drop-drop, sets, sets-eq, take-length}
 use Rattle.transitions.specs.declared.events.Action.{Action}
 use Rattle.text.specs.Text.{Wrote, most}
 use Rattle.text.specs.Line.{lineOf}
 use Rattle.text.proofs.WriteLaws.{then, none-wrote}
+use Rattle.text.proofs.DigitLaws.{by-test}
 use Rattle.records.specs.Events.{eventRead}
 use Rattle.records.specs.declared.events.EventRead.{EventRead}
 use Rattle.records.specs.declared.events.EventRead.the-variants as read
@@ -20,7 +20,7 @@ use Rattle.level_control.specs.Answer.{packed, refused}
 use Rattle.level_control.specs.declared.answer.Answer.{Answer}
 use Rattle.level_control.specs.declared.state.LevelControlState.{LevelControlState}
 use Rattle.level_control.proofs.AnswerLaws.{unpacked}
-use Rattle.level_control.proofs.Demand1Laws.{demand-1}
+use Rattle.level_theorems.proofs.Demand1Laws.{demand-1}
 use Rattle.sheet.specs.Lines.{readOutcome, recordOutcome, recordsOf, outcomesOf, outcomeLine, answerLine, linesFrom, textOf}
 use Rattle.sheet.specs.Play.{fitted, lengthOk}
 use Rattle.sheet.specs.declared.play.Played.{Played}
@@ -90,13 +90,6 @@ none-left k index s l out at h a =
 
 pub never : false ≡ true → ⊥
 never e = let z : _≡_ {A = ℕ} 0 1 = cc in omega arith
-
-pub by-bool : {G : Type 0} (t : Bool) → (t ≡ true → G) → (t ≡ false → G) → G
-by-bool true f g = f refl
-by-bool false f g = g refl
-
-by-test : {G : Type 0} (a b : ℕ) → (a < b → G) → (b ≤ a → G) → G
-by-test a b f g = by-bool (ltb a b) (λ e. f (ltb-true a b e)) (λ e. g (ltb-false a b e))
 
 pub at-least : (n : ℕ) → lengthOk n ≡ true → 20 ≤ n
 unfolding lengthOk

@@ -18,7 +18,7 @@ by-bool true f g = f refl
 by-bool false f g = g refl
 
 -- a number is below another, or not
-by-test : {G : Type 0} (a b : ℕ) → (a < b → G) → (b ≤ a → G) → G
+pub by-test : {G : Type 0} (a b : ℕ) → (a < b → G) → (b ≤ a → G) → G
 by-test a b f g = by-bool (ltb a b) (λ e. f (ltb-true a b e)) (λ e. g (ltb-false a b e))
 
 within-one : (k x : ℕ) → x < 10 → digitsWithin (suc k) x ≡ (code "0" + x) ∷ []

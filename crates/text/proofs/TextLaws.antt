@@ -31,6 +31,7 @@ text-laws = record {
   line-shows = line-shows;
   line-length = line-length;
   sheet = refl;
+  other-letters = refl;
   stands = stands;
   too-long = too-long;
 }

@@ -11,7 +11,7 @@ use Rattle.units.specs.Units.{tenths}
 use Rattle.units.specs.declared.Tenths.{Tenths}
 use Rattle.transitions.specs.Events.{act}
 use Rattle.transitions.specs.declared.events.Action.{Action}
-use Rattle.transitions.specs.declared.events.ActionKind.the-variants.{D, P, S, L, R, W}
+use Rattle.transitions.specs.declared.events.ActionKind.the-variants.{P, S, C, D, L, R, W, E, K, X}
 use Rattle.transitions.specs.declared.types.Level.{Level}
 use Rattle.transitions.specs.declared.types.Level.the-variants.{Known, Missing}
 use Rattle.text.specs.Text.{ascii, most, Wrote, digits}
@@ -90,6 +90,8 @@ pub record Laws : Type 0 where
       ++ lineOf 6 0 (Known 12) (tenths 1) (act D 13)
       ++ lineOf 7 0 (Known 13) (tenths 0) (act P 0 ++ act S 0 ++ act L 0 ++ act R 0)
       ≡ ascii "1 0 10 0 D11\n2 0 11 2 P S L W2100000\n3 0 11 2 D12\n4 0 12 1 P S W2200000\n5 8 12 1\n6 0 12 1 D13\n7 0 13 0 P S L R\n"
+  -- and the letters that it lacks
+  pub other-letters : lineOf 1 0 Missing (tenths 0) (act C 0 ++ act C 1 ++ act E 15 ++ act K 0 ++ act X 0) ≡ ascii "1 0 - 0 C0 C1 E15 K X\n"
   -- a text that fits stands where it was put, and the bytes before and past it stay
   pub stands : (old : List ℕ) (at : ℕ) (text new : List ℕ) (r : ℕ) → length old ≤ most → Wrote old at text new r → at + length text ≤ length old
       → (new ≡ take at old ++ text ++ drop (at + length text) old) × (r ≡ at + length text)

@@ -305,6 +305,10 @@ move-nearest : (rate q : ℕ) → 1 ≤ rate → apart (rate * movePeriod rate .
 unfolding movePeriod
 move-nearest rate q pos = nearest rate q pos
 
+move-period : (rate : ℕ) → 1 ≤ rate → (rate * movePeriod rate .0 ≤ 1000000 + rate / 2) × (1000000 + rate / 2 < rate * (movePeriod rate .0 + 1))
+unfolding movePeriod
+move-period rate pos = (below-it rate 0 pos, above-it rate 0 pos)
+
 -- Part 10
 
 known-is : (a b : ℕ) → Known a ≡ Known b → a ≡ b
@@ -377,6 +381,7 @@ rule-laws = record {
   waits = waits;
   asks = asks;
   move-nearest = move-nearest;
+  move-period = move-period;
   scene-known = scene-known;
   scene-missing = scene-missing;
   cause = cause;

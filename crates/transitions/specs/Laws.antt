@@ -1,5 +1,5 @@
 -- The rules in document 01's own words: laws for every value, by which the definitions of this folder can be believed.
-use Prim.Native.Nat.{ℕ, _+_, _-_, _*_, _≤_, _<_}
+use Prim.Native.Nat.{ℕ, _/_, _+_, _-_, _*_, _≤_, _<_}
 use mathlib.Core.Bool.{Bool, true, false}
 use mathlib.Core.Path.{_≡_}
 use mathlib.Core.Logic.{_↔_, _⊎_}
@@ -86,6 +86,9 @@ pub record Laws : Type 0 where
       → (waitOrAsk asked answered period ≡ Ask) ↔ (period .0 < answered .0 - asked .0)
   -- Part 8: no whole number of µs, times the rate, is nearer to 1,000,000 than the period is
   pub move-nearest : (rate q : ℕ) → 1 ≤ rate → apart (rate * movePeriod rate .0) 1000000 ≤ apart (rate * q) 1000000
+  -- "(1,000,000 + rate ÷ 2) ÷ rate, both divisions rounded down", so of two that are as near the longer
+  pub move-period : (rate : ℕ) → 1 ≤ rate
+      → (rate * movePeriod rate .0 ≤ 1000000 + rate / 2) × (1000000 + rate / 2 < rate * (movePeriod rate .0 + 1))
   -- Part 10: the value of the first pair that decides, exactly; missing exactly if none does
   pub scene-known : (ids values : List ℕ) (v : ℕ)
       → (sceneLevel ids values ≡ Known v) ↔ ((p : Pair) × First decides (pairs ids values) p × (p .value ≡ v))

@@ -1,9 +1,0 @@
-use Rattle.fade_theorems.proofs.Uninterrupted.{uninterrupted-holds}
-use Rattle.fade_theorems.proofs.onward_is_uninterrupted.Statement.{statement}
-use Rattle.fade_theorems.proofs.onward_is_uninterrupted.Tie as tie
-
-returns : tie.Need-returns
-returns c = uninterrupted-holds
-
-pub onward-is-uninterrupted-spec : {M : Type 1} → statement M
-onward-is-uninterrupted-spec = tie.close (tie.spec returns)

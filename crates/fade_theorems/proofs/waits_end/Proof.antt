@@ -1,9 +1,0 @@
-use Rattle.fade_theorems.proofs.WaitsEnd.{waits-end}
-use Rattle.fade_theorems.proofs.waits_end.Statement.{statement}
-use Rattle.fade_theorems.proofs.waits_end.Tie as tie
-
-returns : tie.Need-returns
-returns c = waits-end
-
-pub waits-end-spec : {M : Type 1} → statement M
-waits-end-spec = tie.close (tie.spec returns)

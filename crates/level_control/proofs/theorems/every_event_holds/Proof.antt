@@ -1,9 +1,0 @@
-use Rattle.level_control.proofs.Demand1Laws.{demand-1}
-use Rattle.level_control.proofs.theorems.every_event_holds.Statement.{statement}
-use Rattle.level_control.proofs.theorems.every_event_holds.Tie as tie
-
-returns : tie.Need-returns
-returns c = demand-1
-
-pub every-event-holds-spec : {M : Type 1} → statement M
-every-event-holds-spec = tie.close (tie.spec returns)

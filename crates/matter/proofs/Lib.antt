@@ -1,0 +1,4 @@
+pub mod PartsHold
+pub mod Changes
+pub mod CommandRules
+pub mod CommandsAgree

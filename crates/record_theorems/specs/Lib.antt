@@ -1,0 +1,3 @@
+pub mod RecordPlays
+pub mod RecordTheorems
+pub mod RecordInstance

@@ -1,0 +1,89 @@
+use native.Mathlib.Omega.{arith}
+use lib.ListN.{length}
+use Prim.Native.Nat.{_+_, _*_, _≤_}
+use borrow.Author.Needs.{needs}
+use Rattle.replay.proofs.states.print_events.Statement.{statement}
+use Rattle.replay.proofs.states.print_events.Tie as tie
+use Rattle.replay.proofs.states.print_events.Reads as reads
+use Rattle.replay.proofs.states.print_events.Lts as lts
+use Rattle.replay.proofs.states.print_answer.Reads as print-answer-reads
+use Rattle.sheet.proofs.lines.record_event.Reads as record-event-reads
+
+abbrev Inv-loop : tie.InvT-loop
+Inv-loop events state₀ from₀ index₀ left₀ state from index left =
+    (from + 20 * left ≤ length events) × (index + left ≤ length events + 1)
+
+abbrev μ-loop : tie.MeasureT-loop
+μ-loop events state₀ from₀ index₀ left₀ state from index left = left
+
+-- src/states.rt:79:5
+loop-holds : tie.Need-loop-holds Inv-loop μ-loop
+loop-holds c = (omega arith, omega arith)
+
+-- src/states.rt:80:56
+add-record-event : tie.Need-add-record-event Inv-loop μ-loop
+add-record-event c = search needs
+
+-- src/states.rt:80:42
+sub-record-event : tie.Need-sub-record-event Inv-loop μ-loop
+sub-record-event c = search needs
+
+-- src/states.rt:80:42
+part-record-event-start : tie.Need-part-record-event-start Inv-loop μ-loop
+part-record-event-start c = search needs
+
+-- src/states.rt:80:42
+part-record-event-end : tie.Need-part-record-event-end Inv-loop μ-loop
+part-record-event-end c = search needs
+
+-- src/states.rt:80:13
+record-event-requires : tie.Need-record-event-requires Inv-loop μ-loop
+record-event-requires c κs = search needs
+
+-- src/states.rt:81:9
+print-answer-requires : tie.Need-print-answer-requires Inv-loop μ-loop
+print-answer-requires c κs = search needs
+
+-- src/states.rt:83:9
+add-from : tie.Need-add-from Inv-loop μ-loop
+add-from c = search needs
+
+-- src/states.rt:84:9
+add-index : tie.Need-add-index Inv-loop μ-loop
+add-index c = search needs
+
+-- src/states.rt:85:9
+sub-left : tie.Need-sub-left Inv-loop μ-loop
+sub-left c = search needs
+
+-- src/states.rt:79:5
+loop-less : tie.Need-loop-less Inv-loop μ-loop
+loop-less c = search needs
+
+-- src/states.rt:79:5
+loop-again : tie.Need-loop-again Inv-loop μ-loop
+loop-again c = (omega arith, omega arith)
+
+-- src/states.rt:74:1
+returns : tie.Need-returns Inv-loop μ-loop
+returns c = search needs
+
+pub print-events-spec : {M : Type 1} → statement M
+print-events-spec =
+    tie.close
+    (tie.spec
+    Inv-loop
+    μ-loop
+    loop-holds
+    add-record-event
+    sub-record-event
+    part-record-event-start
+    part-record-event-end
+    record-event-requires
+    print-answer-requires
+    add-from
+    add-index
+    sub-left
+    loop-less
+    loop-again
+    returns)
