@@ -1,14 +1,18 @@
 -- The laws of specs/Laws.antt. Assumes nothing.
-use Prim.Native.Nat.{ℕ, zero, suc, _-_, _%_, _<_, _≤_}
+use Prim.Native.Nat.{ℕ, zero, suc, _+_, _-_, _%_, _<_, _≤_, min}
 use mathlib.Core.Bool.{Bool, true, false, cond}
-use mathlib.Core.Path.{_≡_, refl, sym, ap, _∙_}
-use mathlib.Core.List.{List, _++_}
+use mathlib.Core.Path.{_≡_, refl, sym, ap, subst, _∙_}
+use mathlib.Core.List.{List, [], _∷_, _++_}
+use mathlib.Core.Logic.{_↔_, _⊎_, inl, inr, ⊎-elim}
+use native.Mathlib.Nat.{zero-add}
 use native.Mathlib.Omega.{arith}
 use borrow.Author.Tests.{le-ltb, le-leb, lt-leb, leb-true, eqb-true, eq-eqb}
 use lib.Dec.{leb, eqb}
-use lib.IntN.{pos, negsuc}
+use lib.IntN.{ℤ, pos, negsuc}
 use lib.ListN.{length, take, drop, length-append, length-drop}
-use Rattle.records.specs.Settings.{settingsRead}
+use lib.Seq.{sets, sets-eq, take-at}
+use Rattle.text.specs.Text.{ascii, digits, digitsWithin}
+use Rattle.records.specs.Settings.{settingsRead, settingsReadNumber}
 use Rattle.records.specs.declared.settings.SettingsRead.{SettingsRead}
 use Rattle.records.specs.declared.settings.SettingsRead.the-variants as read
 use Rattle.transitions.specs.declared.settings.Settings.{Settings}
@@ -16,10 +20,11 @@ use Rattle.level_control.specs.State.{newState}
 use Rattle.level_control.specs.declared.state.LevelControlState.{LevelControlState}
 use Rattle.sheet.specs.Laws.{Laws}
 use Rattle.sheet.specs.Lines.{recordOutcome, recordsOf, outcomesOf, textOf}
-use Rattle.sheet.specs.Play.{lengthOk, fitted, playWith, playOf, returned}
+use Rattle.sheet.specs.Play.{lengthOk, fitted, playWith, playOf, numberOf, result, returned, refusalText, shown, keyOf, printed}
 use Rattle.sheet.specs.declared.play.Played.{Played}
 use Rattle.sheet.specs.declared.play.Played.the-variants.{Text, Refused}
 use Rattle.sheet.specs.declared.play.Refusal.{Refusal}
+use Rattle.sheet.specs.declared.play.Refusal.the-variants.{RecordWrong, MaxAbove254, MinAboveMax, LightingMin0, TextTooLong}
 use Rattle.sheet.proofs.SheetLaws.{at-least, at-most, never}
 
 twenties : (n : ℕ) → lengthOk n ≡ true → n % 20 ≡ 0
@@ -83,6 +88,148 @@ short : (records out : List ℕ) (settings : Settings)
 unfolding playOf playWith fitted
 short records out settings l r h = rw (l, r, lt-leb _ _ h)
 
+-- minus n + 1, for a number below 16: a wrong length, or the settings' own number
+
+abbrev isMinus : ℤ → Bool
+isMinus (pos n) = false
+isMinus (negsuc n) = true
+
+abbrev lessOne : ℤ → ℕ
+lessOne (pos n) = 0
+lessOne (negsuc n) = n
+
+-- a refusal of the call itself
+given : (why : Refusal) (out : List ℕ) (n : ℕ) → 1 ≤ numberOf why → (returned (Refused why, out) ≡ (negsuc n, out)) ↔ (numberOf why ≡ n + 1)
+given why out n h = (
+  λ e. let same : numberOf why - 1 ≡ n = ap (λ (p : ℤ × List ℕ). lessOne (p .0)) e in omega arith,
+  λ e. let same : numberOf why - 1 ≡ n = omega arith in rw same refl,
+)
+
+-- no text, and none that is too long, gives such a number
+not-fitted : (text out : List ℕ) (n : ℕ) → n ≤ 3 → (returned (fitted text out) ≡ (negsuc n, out)) ↔ (0 ≡ n + 1)
+unfolding fitted
+not-fitted text out n h = go (leb (length text) (length out))
+  where
+    go : (b : Bool) → (returned (cond b (Text (length text), text ++ drop (length text) out) (Refused TextTooLong, out)) ≡ (negsuc n, out)) ↔ (0 ≡ n + 1)
+    go true = (λ e. absurd (never (ap (λ (p : ℤ × List ℕ). isMinus (p .0)) e)), λ e. absurd (omega arith))
+    go false = (
+      λ e. absurd (let same : 15 ≡ n = ap (λ (p : ℤ × List ℕ). lessOne (p .0)) e in omega arith),
+      λ e. absurd (omega arith),
+    )
+
+minus-with : (r : SettingsRead) (events out : List ℕ) (n : ℕ) → n ≤ 3
+    → (returned (playWith r events out) ≡ (negsuc n, out)) ↔ (settingsReadNumber r ≡ n + 1)
+unfolding playWith
+minus-with (read.Settings settings) events out n h = not-fitted (textOf (newState settings) events) out n h
+minus-with read.RecordWrong events out n h = given RecordWrong out n (omega arith)
+minus-with read.MaxAbove254 events out n h = given MaxAbove254 out n (omega arith)
+minus-with read.MinAboveMax events out n h = given MinAboveMax out n (omega arith)
+minus-with read.LightingMin0 events out n h = given LightingMin0 out n (omega arith)
+
+minus-1 : (records out : List ℕ)
+    → (returned (playOf records out) ≡ (negsuc 0, out))
+    ↔ ((lengthOk (length records) ≡ false) ⊎ (settingsReadNumber (settingsRead (take 20 records)) ≡ 1))
+unfolding playOf
+minus-1 records out = go (lengthOk (length records))
+  where
+    go : (ok : Bool)
+        → (returned (cond ok (playWith (settingsRead (take 20 records)) (drop 20 records) out) (Refused RecordWrong, out)) ≡ (negsuc 0, out))
+        ↔ ((ok ≡ false) ⊎ (settingsReadNumber (settingsRead (take 20 records)) ≡ 1))
+    go true =
+        let both = minus-with (settingsRead (take 20 records)) (drop 20 records) out 0 (omega arith) in
+        (λ e. inr (both .0 e), ⊎-elim (λ f. absurd (never (sym f))) (both .1))
+    go false = (λ e. inl refl, λ h. refl)
+
+minus-2-3-4 : (records out : List ℕ) (n : ℕ) → 1 ≤ n → n ≤ 3
+    → (returned (playOf records out) ≡ (negsuc n, out))
+    ↔ ((lengthOk (length records) ≡ true) × (settingsReadNumber (settingsRead (take 20 records)) ≡ n + 1))
+unfolding playOf
+minus-2-3-4 records out n low high = go (lengthOk (length records))
+  where
+    go : (ok : Bool)
+        → (returned (cond ok (playWith (settingsRead (take 20 records)) (drop 20 records) out) (Refused RecordWrong, out)) ≡ (negsuc n, out))
+        ↔ ((ok ≡ true) × (settingsReadNumber (settingsRead (take 20 records)) ≡ n + 1))
+    go true =
+        let both = minus-with (settingsRead (take 20 records)) (drop 20 records) out n high in
+        (λ e. (refl, both .0 e), λ h. both .1 (h .1))
+    go false = (
+      λ e. absurd (let same : 0 ≡ n = ap (λ (p : ℤ × List ℕ). lessOne (p .0)) e in omega arith),
+      λ h. absurd (never (h .0)),
+    )
+
+-- What keysheet prints
+
+-- a text at the front, cut off where it ends
+cut : (text out : List ℕ) → length text ≤ length out → printed (length text, text ++ drop (length text) out) ≡ text
+cut text out h =
+    let whole : length (text ++ drop (length text) out) ≡ length out = length-append text (drop (length text) out) ∙ rw (length-drop (length text) out) (omega arith) in
+    let least : min (length text) (length (text ++ drop (length text) out)) ≡ length text = rw whole (omega arith) in
+    ap (λ (k : ℕ). take k (text ++ drop (length text) out)) least ∙ take-at text (drop (length text) out) (length text) refl
+
+prints-text : (records out : List ℕ) (settings : Settings)
+    → lengthOk (length records) ≡ true → settingsRead (take 20 records) ≡ read.Settings settings
+    → length (textOf (newState settings) (drop 20 records)) ≤ length out
+    → let text = textOf (newState settings) (drop 20 records) in
+    (keyOf records out ≡ (length text, text ++ drop (length text) out)) × (printed (keyOf records out) ≡ text)
+unfolding keyOf shown playOf playWith fitted
+prints-text records out settings l r h = rw (l, r, le-leb _ _ h) (refl, cut (textOf (newState settings) (drop 20 records)) out h)
+
+abbrev line : ℕ → List ℕ
+line n = ascii "0 " ++ digits n ++ ascii "\n"
+
+refusal-lines : (refusalText RecordWrong ≡ 48 ∷ 32 ∷ 49 ∷ 10 ∷ [])
+    × (refusalText MaxAbove254 ≡ 48 ∷ 32 ∷ 50 ∷ 10 ∷ [])
+    × (refusalText MinAboveMax ≡ 48 ∷ 32 ∷ 51 ∷ 10 ∷ [])
+    × (refusalText LightingMin0 ≡ 48 ∷ 32 ∷ 52 ∷ 10 ∷ [])
+    × (refusalText TextTooLong ≡ 48 ∷ 32 ∷ 49 ∷ 54 ∷ 10 ∷ [])
+unfolding refusalText digits digitsWithin
+refusal-lines = (refl, refl, refl, refl, refl)
+
+short-line : (why : Refusal) → length (refusalText why) ≤ 5
+unfolding refusalText digits digitsWithin
+short-line RecordWrong = omega arith
+short-line MaxAbove254 = omega arith
+short-line MinAboveMax = omega arith
+short-line LightingMin0 = omega arith
+short-line TextTooLong = omega arith
+
+line-is : (why : Refusal) → refusalText why ≡ line (numberOf why)
+unfolding refusalText
+line-is why = refl
+
+above-0 : (why : Refusal) → 1 ≤ numberOf why
+above-0 RecordWrong = omega arith
+above-0 MaxAbove254 = omega arith
+above-0 MinAboveMax = omega arith
+above-0 LightingMin0 = omega arith
+above-0 TextTooLong = omega arith
+
+-- a line that fits, put at the front
+put-line : (text out : List ℕ) → length text ≤ 5 → length text ≤ length out
+    → _≡_ {A = ℕ × List ℕ} (min (length text) 18446744073709551615, sets out 0 text) (length text, text ++ drop (length text) out)
+put-line text out s h =
+    let least : min (length text) 18446744073709551615 ≡ length text = omega arith in
+    let stands : sets out 0 text ≡ text ++ drop (length text) out = sets-eq text out 0 (omega arith) ∙ rw zero-add in
+    rw (least, stands) refl
+
+prints : (p : Played × List ℕ) (out : List ℕ) (n : ℕ) → Keeps p out → result (p .0) ≡ negsuc n → length (line (n + 1)) ≤ length out
+    → (shown p ≡ (length (line (n + 1)), line (n + 1) ++ drop (length (line (n + 1))) out)) × (printed (shown p) ≡ line (n + 1))
+unfolding shown
+prints (Text m, q) out n k e h = absurd (never (ap isMinus e))
+prints (Refused why, q) out n k e h =
+    let number : numberOf why ≡ n + 1 = omega (arith, ap lessOne e, above-0 why) in
+    let text : refusalText why ≡ line (n + 1) = line-is why ∙ ap line number in
+    let kept : q ≡ out = k .0 why refl in
+    let short : length (line (n + 1)) ≤ 5 = subst (λ (t : List ℕ). length t ≤ 5) text (short-line why) in
+    let it = put-line (line (n + 1)) out short h in
+    rw (kept, text) (it, ap printed it ∙ cut (line (n + 1)) out h)
+
+prints-number : (records out : List ℕ) (n : ℕ) → returned (playOf records out) .0 ≡ negsuc n
+    → length (line (n + 1)) ≤ length out
+    → (keyOf records out ≡ (length (line (n + 1)), line (n + 1) ++ drop (length (line (n + 1))) out)) × (printed (keyOf records out) ≡ line (n + 1))
+unfolding keyOf
+prints-number records out n e h = prints (playOf records out) out n (keeps records out) e h
+
 line-each : (start : LevelControlState) (k : ℕ) (bytes : List ℕ) → length (outcomesOf start (recordsOf k bytes)) ≡ k
 unfolding outcomesOf recordsOf
 line-each start zero bytes = refl
@@ -94,6 +241,11 @@ sheet-laws = record {
   refused-keeps = λ records out why e. keeps records out .0 why e;
   text-stands = stands;
   too-short = short;
+  minus-1 = minus-1;
+  minus-2-3-4 = minus-2-3-4;
+  prints-text = prints-text;
+  prints-number = prints-number;
+  refusal-lines = refusal-lines;
   same-length = λ records out. keeps records out .1;
   a-line-each = line-each;
 }

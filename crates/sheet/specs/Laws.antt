@@ -1,20 +1,22 @@
 -- The sheet in document 01's own words: laws for every list of bytes, by which the definitions of this folder can be believed.
-use Prim.Native.Nat.{ℕ, _%_, _≤_, _<_}
-use mathlib.Core.Bool.{true}
+use Prim.Native.Nat.{ℕ, _+_, _%_, _≤_, _<_}
+use mathlib.Core.Bool.{true, false}
 use mathlib.Core.Path.{_≡_}
-use mathlib.Core.Logic.{_↔_}
-use mathlib.Core.List.{List, _++_}
+use mathlib.Core.Logic.{_↔_, _⊎_}
+use mathlib.Core.List.{List, [], _∷_, _++_}
 use lib.IntN.{ℤ, pos, negsuc}
 use lib.ListN.{length, take, drop}
-use Rattle.records.specs.Settings.{settingsRead}
+use Rattle.text.specs.Text.{ascii, digits}
+use Rattle.records.specs.Settings.{settingsRead, settingsReadNumber}
 use Rattle.records.specs.declared.settings.SettingsRead.the-variants as read
 use Rattle.transitions.specs.declared.settings.Settings.{Settings}
 use Rattle.level_control.specs.State.{newState}
 use Rattle.level_control.specs.declared.state.LevelControlState.{LevelControlState}
 use Rattle.sheet.specs.Lines.{recordsOf, outcomesOf, textOf}
-use Rattle.sheet.specs.Play.{lengthOk, playOf, returned}
+use Rattle.sheet.specs.Play.{lengthOk, playOf, returned, refusalText, keyOf, printed}
 use Rattle.sheet.specs.declared.play.Played.the-variants.{Refused}
 use Rattle.sheet.specs.declared.play.Refusal.{Refusal}
+use Rattle.sheet.specs.declared.play.Refusal.the-variants.{RecordWrong, MaxAbove254, MinAboveMax, LightingMin0, TextTooLong}
 
 pub record Laws : Type 0 where
   -- "play length 20 to 5,120 in twenties"
@@ -32,6 +34,31 @@ pub record Laws : Type 0 where
       → lengthOk (length records) ≡ true → settingsRead (take 20 records) ≡ read.Settings settings
       → length out < length (textOf (newState settings) (drop 20 records))
       → returned (playOf records out) ≡ (negsuc 15, out)
+  -- "mark, flag, known bit 6 or 7, or unnamed byte wrong; play length": minus 1 exactly if the length or the settings' record is wrong
+  pub minus-1 : (records out : List ℕ)
+      → (returned (playOf records out) ≡ (negsuc 0, out))
+      ↔ ((lengthOk (length records) ≡ false) ⊎ (settingsReadNumber (settingsRead (take 20 records)) ≡ 1))
+  -- minus 2, 3, 4 exactly if the length is right and the settings' number is that; negsuc n is minus n + 1
+  pub minus-2-3-4 : (records out : List ℕ) (n : ℕ) → 1 ≤ n → n ≤ 3
+      → (returned (playOf records out) ≡ (negsuc n, out))
+      ↔ ((lengthOk (length records) ≡ true) × (settingsReadNumber (settingsRead (take 20 records)) ≡ n + 1))
+  -- keysheet "prints that text": of an accepted play that fits; the rest of its output stays
+  pub prints-text : (records out : List ℕ) (settings : Settings)
+      → lengthOk (length records) ≡ true → settingsRead (take 20 records) ≡ read.Settings settings
+      → length (textOf (newState settings) (drop 20 records)) ≤ length out
+      → let text = textOf (newState settings) (drop 20 records) in
+      (keyOf records out ≡ (length text, text ++ drop (length text) out)) × (printed (keyOf records out) ≡ text)
+  -- "or `0 `, the number and a line feed": the number that the C entry gives, if the line fits; the rest stays
+  pub prints-number : (records out : List ℕ) (n : ℕ) → returned (playOf records out) .0 ≡ negsuc n
+      → let line = ascii "0 " ++ digits (n + 1) ++ ascii "\n" in
+      length line ≤ length out
+      → (keyOf records out ≡ (length line, line ++ drop (length line) out)) × (printed (keyOf records out) ≡ line)
+  -- these lines, byte for byte
+  pub refusal-lines : (refusalText RecordWrong ≡ 48 ∷ 32 ∷ 49 ∷ 10 ∷ [])
+      × (refusalText MaxAbove254 ≡ 48 ∷ 32 ∷ 50 ∷ 10 ∷ [])
+      × (refusalText MinAboveMax ≡ 48 ∷ 32 ∷ 51 ∷ 10 ∷ [])
+      × (refusalText LightingMin0 ≡ 48 ∷ 32 ∷ 52 ∷ 10 ∷ [])
+      × (refusalText TextTooLong ≡ 48 ∷ 32 ∷ 49 ∷ 54 ∷ 10 ∷ [])
   -- the output keeps its length
   pub same-length : (records out : List ℕ) → length (playOf records out .1) ≡ length out
   -- a line for each event record, damaged ones too

@@ -67,3 +67,7 @@ shown (Refused why, out) = (min (length (refusalText why)) most, sets out 0 (ref
 
 unfoldable pub keyOf : List ℕ → List ℕ → ℕ × List ℕ
 keyOf records out = shown (playOf records out)
+
+-- the bytes that keysheet prints, which `front` cuts from out
+abbrev pub printed : ℕ × List ℕ → List ℕ
+printed k = take (min (k .0) (length (k .1))) (k .1)
