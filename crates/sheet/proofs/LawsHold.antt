@@ -6,12 +6,13 @@ use mathlib.Core.List.{List, [], _∷_, _++_}
 use mathlib.Core.Logic.{_↔_, _⊎_, inl, inr, ⊎-elim}
 use native.Mathlib.Nat.{zero-add}
 use native.Mathlib.Omega.{arith}
-use borrow.Author.Tests.{le-ltb, le-leb, lt-leb, leb-true, eqb-true, eq-eqb}
+use borrow.Author.Tests.{lt-ltb, le-ltb, le-leb, lt-leb, leb-true, eqb-true, eq-eqb}
 use lib.Dec.{leb, eqb}
 use lib.IntN.{ℤ, pos, negsuc}
 use lib.ListN.{length, take, drop, length-append, length-drop}
-use lib.Seq.{sets, sets-eq, take-at}
+use lib.Seq.{sets, sets-eq, take-at, take-all, length-take-le}
 use Rattle.text.specs.Text.{ascii, digits, digitsWithin}
+use Rattle.text.proofs.DigitLaws.{by-test}
 use Rattle.records.specs.Settings.{settingsRead, settingsReadNumber}
 use Rattle.records.specs.declared.settings.SettingsRead.{SettingsRead}
 use Rattle.records.specs.declared.settings.SettingsRead.the-variants as read
@@ -235,6 +236,21 @@ unfolding outcomesOf recordsOf
 line-each start zero bytes = refl
 line-each start (suc k) bytes = ap suc (line-each (recordOutcome start (take 20 bytes) .state) k (drop 20 bytes))
 
+-- more than a play may have
+
+too-many : (n : ℕ) → 5120 < n → lengthOk n ≡ false
+unfolding lengthOk
+too-many n h = rw (le-ltb n 20 (omega arith), lt-ltb 5120 n h) refl
+
+refused-long : (records out : List ℕ) → 5120 < length records → playOf records out ≡ (Refused RecordWrong, out)
+unfolding playOf
+refused-long records out h = rw (too-many (length records) h) refl
+
+reads-enough : (input out : List ℕ) → playOf (take 5121 input) out ≡ playOf input out
+reads-enough input out = by-test 5121 (length input)
+    (λ h. refused-long (take 5121 input) out (rw (length-take-le 5121 input (omega arith)) (omega arith)) ∙ sym (refused-long input out (omega arith)))
+    (λ h. ap (λ (r : List ℕ). playOf r out) (take-all 5121 input h))
+
 pub sheet-laws : Laws
 sheet-laws = record {
   length-right = λ n. (λ e. (at-least n e, at-most n e, twenties n e), right n);
@@ -246,6 +262,7 @@ sheet-laws = record {
   prints-text = prints-text;
   prints-number = prints-number;
   refusal-lines = refusal-lines;
+  reads-enough = reads-enough;
   same-length = λ records out. keeps records out .1;
   a-line-each = line-each;
 }

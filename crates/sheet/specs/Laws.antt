@@ -59,6 +59,8 @@ pub record Laws : Type 0 where
       × (refusalText MinAboveMax ≡ 48 ∷ 32 ∷ 51 ∷ 10 ∷ [])
       × (refusalText LightingMin0 ≡ 48 ∷ 32 ∷ 52 ∷ 10 ∷ [])
       × (refusalText TextTooLong ≡ 48 ∷ 32 ∷ 49 ∷ 54 ∷ 10 ∷ [])
+  -- it "reads the same records": one byte more than a play may have is enough
+  pub reads-enough : (input out : List ℕ) → playOf (take 5121 input) out ≡ playOf input out
   -- the output keeps its length
   pub same-length : (records out : List ℕ) → length (playOf records out .1) ≡ length out
   -- a line for each event record, damaged ones too
