@@ -2,14 +2,14 @@
 use Prim.Native.Nat.{ℕ, _+_, _-_, _*_, _/_, _≤_, _<_}
 use mathlib.Core.Bool.{Bool, true, false, cond, _&&_, _||_, not, Bool·beq, true≢false, false≢true, or-false, or-true}
 use mathlib.Core.Path.{_≡_, refl, sym, ap, _∙_}
-use mathlib.Core.List.{List}
+use mathlib.Core.List.{List, [], _∷_}
 use mathlib.Core.Logic.{_↔_, _⊎_, inl, inr, ⊎-elim}
 use native.Mathlib.Nat.{mul-div-le, lt-mul-div-succ, mul-le-mul-left}
 use native.Mathlib.Omega.{arith}
 use borrow.Author.Tests.{ltb-true, ltb-false, leb-true, leb-false, eqb-true, eqb-false, not-true, lt-ltb, le-ltb, le-leb, lt-leb, eq-eqb, ne-eqb}
 use lib.Dec.{ltb, leb, eqb}
 use Rattle.units.specs.Numbers.{apart, heldTo}
-use Rattle.units.specs.Units.{tenths, micros, isZero, exceeds, tenthsApart, scaledFloor, later}
+use Rattle.units.specs.Units.{tenths, isZero, exceeds, tenthsApart, scaledFloor, later}
 use Rattle.units.specs.declared.Tenths.{Tenths}
 use Rattle.units.specs.declared.Millis.{Millis}
 use Rattle.units.specs.declared.Micros.{Micros}
@@ -18,9 +18,10 @@ use Rattle.transitions.specs.Types.{executesIfOff, rateOr}
 use Rattle.transitions.specs.RemainingTime.{remainingTimeDue}
 use Rattle.transitions.specs.Options.{shouldContinue}
 use Rattle.transitions.specs.CurrentLevel.{currentLevelDue}
-use Rattle.transitions.specs.Coupling.{coupledOnOff}
+use Rattle.transitions.specs.Coupling.{coupledOnOff, coupledValues}
 use Rattle.transitions.specs.Commands.{targetLevel, stepTime, stepTimeNumber, rateInForce, moveRateNumber}
-use Rattle.transitions.specs.Fade.{fadePeriod, remainingAfter, nextLevel, waitOrAsk}
+use Rattle.transitions.specs.Fade.{remainingAfter, nextLevel, waitOrAsk}
+use Rattle.transitions.specs.Fade as fade
 use Rattle.transitions.specs.Moves.{movePeriod}
 use Rattle.transitions.specs.Scene.{Pair, pairs, decides, sceneLevel}
 use Rattle.transitions.specs.Causes.{Row, rows, firstCause}
@@ -37,6 +38,10 @@ use Rattle.transitions.specs.declared.commands.MoveRate.the-variants.{Go
 use Rattle.transitions.specs.declared.fade.Next.the-variants.{Wait, Ask}
 use Rattle.transitions.proofs.Booleans.{or-cases, or-first, or-second, and-first, and-second, and-both}
 use Rattle.transitions.proofs.SearchLaws.{found, missed, either}
+use Rattle.transitions.proofs.TaskLaws as task
+use Rattle.transitions.proofs.TaskLaws.{none-is-not-one, one-is, one}
+use Rattle.transitions.proofs.ValueLaws as value
+use Rattle.transitions.proofs.ValueLaws.{known-is}
 
 -- Part 2
 
@@ -117,19 +122,34 @@ missing-report gap last now end l = (simp or-true, simp or-true)
 
 -- Part 5
 
-sent : (w c x on v : Bool)
-    → (cond (w && c && not (Bool·beq x on)) (Sent x) NotSent ≡ Sent v) ↔ ((w ≡ true) × (c ≡ true) × (v ≡ x) × (v ≡ on → ⊥))
-sent false c x on v = (λ e. absurd (let z : _≡_ {A = ℕ} 0 1 = cc in omega arith), λ h. absurd (false≢true (h .0)))
-sent true false x on v = (λ e. absurd (let z : _≡_ {A = ℕ} 0 1 = cc in omega arith), λ h. absurd (false≢true (h .1)))
-sent true true true true v = (λ e. absurd (let z : _≡_ {A = ℕ} 0 1 = cc in omega arith), λ h. absurd (h .3 (h .2)))
-sent true true true false v = (λ e. let p : v ≡ true = cc in (refl, refl, p, λ q. true≢false (sym p ∙ q)), λ h. ap Sent (sym (h .2)))
-sent true true false true v = (λ e. let p : v ≡ false = cc in (refl, refl, p, λ q. false≢true (sym p ∙ q)), λ h. ap Sent (sym (h .2)))
-sent true true false false v = (λ e. absurd (let z : _≡_ {A = ℕ} 0 1 = cc in omega arith), λ h. absurd (h .3 (h .2)))
+abbrev Differs : Bool → ℕ → ℕ → ℕ → Type 0
+Differs on min level v = ((v ≡ 1) × (min < level) × (on ≡ false)) ⊎ ((v ≡ 0) × (level ≤ min) × (on ≡ true))
 
-coupling : (w c on : Bool) (min level : ℕ) (v : Bool)
-    → (coupledOnOff w c on min level ≡ Sent v) ↔ ((w ≡ true) × (c ≡ true) × (v ≡ ltb min level) × (v ≡ on → ⊥))
+sent : (w c x on : Bool) (min level v : ℕ) → ltb min level ≡ x
+    → (coupledValues (cond (w && c && not (Bool·beq x on)) (Sent x) NotSent) ≡ v ∷ []) ↔ ((w ≡ true) × (c ≡ true) × Differs on min level v)
+sent false c x on min level v e = (λ h. absurd (none-is-not-one v h), λ h. absurd (false≢true (h .0)))
+sent true false x on min level v e = (λ h. absurd (none-is-not-one v h), λ h. absurd (false≢true (h .1)))
+sent true true true true min level v e = (
+  λ h. absurd (none-is-not-one v h),
+  λ h. ⊎-elim (λ t. absurd (true≢false (t .2))) (λ t. absurd (omega (arith, ltb-true min level e, t .1))) (h .2),
+)
+sent true true true false min level v e = (
+  λ h. (refl, refl, inl (sym (one-is 1 v h), ltb-true min level e, refl)),
+  λ h. ⊎-elim (λ t. one 1 v (sym (t .0))) (λ t. absurd (false≢true (t .2))) (h .2),
+)
+sent true true false true min level v e = (
+  λ h. (refl, refl, inr (sym (one-is 0 v h), ltb-false min level e, refl)),
+  λ h. ⊎-elim (λ t. absurd (true≢false (t .2))) (λ t. one 0 v (sym (t .0))) (h .2),
+)
+sent true true false false min level v e = (
+  λ h. absurd (none-is-not-one v h),
+  λ h. ⊎-elim (λ t. absurd (omega (arith, ltb-false min level e, t .1))) (λ t. absurd (false≢true (t .2))) (h .2),
+)
+
+coupling : (w c on : Bool) (min level v : ℕ)
+    → (coupledValues (coupledOnOff w c on min level) ≡ v ∷ []) ↔ ((w ≡ true) × (c ≡ true) × Differs on min level v)
 unfolding coupledOnOff
-coupling w c on min level v = sent w c (ltb min level) on v
+coupling w c on min level v = sent w c (ltb min level) on min level v refl
 
 -- Part 6
 
@@ -203,12 +223,6 @@ rate-taken given default fastest h = simp (ne-eqb (rateOr given default fastest)
 
 -- Part 7
 
-fade-period : (time : Tenths) (n : ℕ) → 1 ≤ n
-    → (n * fadePeriod time n .0 ≤ 100 * time .0) × (100 * time .0 < n * (fadePeriod time n .0 + 1))
-unfolding fadePeriod
-fade-period time n h =
-    (omega (arith, mul-div-le (time .0 * 100) n), omega (arith, lt-mul-div-succ (time .0 * 100) h))
-
 pub moves-up : (counter target : ℕ) (time : Tenths) → 1 ≤ time .0 → counter < target → nextLevel counter target time ≡ counter + 1
 unfolding nextLevel
 moves-up counter target time h up = simp (ne-eqb (time .0) 0 (λ z. omega arith), lt-ltb counter target up)
@@ -252,33 +266,28 @@ late : (asked answered period : Micros) → period .0 < answered .0 - asked .0 �
 unfolding waitOrAsk
 late asked answered period h = simp (lt-leb (answered .0 - asked .0) (period .0) h)
 
-wait-is : (s t : Micros) → Wait s ≡ Wait t → s .0 ≡ t .0
-wait-is s t e = ap (λ (x : Micros). x .0) (cc)
-
-waits : (asked answered period until : Micros) → asked .0 + period .0 ≤ 18446744073709551615
-    → (waitOrAsk asked answered period ≡ Wait until) ↔ ((answered .0 - asked .0 ≤ period .0) × (until .0 ≡ asked .0 + period .0))
+waits : (asked answered period : Micros) (until : ℕ) → asked .0 + period .0 ≤ 18446744073709551615
+    → (fade.waits (waitOrAsk asked answered period) ≡ until ∷ []) ↔ ((answered .0 - asked .0 ≤ period .0) × (until ≡ asked .0 + period .0))
 waits asked answered period until fits = (go (leb (answered .0 - asked .0) (period .0)) refl, back)
   where
-    go : (b : Bool) → leb (answered .0 - asked .0) (period .0) ≡ b → waitOrAsk asked answered period ≡ Wait until
-        → (answered .0 - asked .0 ≤ period .0) × (until .0 ≡ asked .0 + period .0)
+    go : (b : Bool) → leb (answered .0 - asked .0) (period .0) ≡ b → fade.waits (waitOrAsk asked answered period) ≡ until ∷ []
+        → (answered .0 - asked .0 ≤ period .0) × (until ≡ asked .0 + period .0)
     go true e h =
         let room = leb-true (answered .0 - asked .0) (period .0) e in
-        let same : later asked period .0 ≡ until .0 = wait-is (later asked period) until (sym (in-time asked answered period room) ∙ h) in
+        let same : later asked period .0 ≡ until = one-is (later asked period .0) until (sym (ap fade.waits (in-time asked answered period room)) ∙ h) in
         (room, omega arith)
     go false e h =
-        absurd (let p = sym (late asked answered period (leb-false (answered .0 - asked .0) (period .0) e)) ∙ h in let z : _≡_ {A = ℕ} 0 1 = cc in omega arith)
+        absurd (none-is-not-one until (sym (ap fade.waits (late asked answered period (leb-false (answered .0 - asked .0) (period .0) e))) ∙ h))
 
-    back : (answered .0 - asked .0 ≤ period .0) × (until .0 ≡ asked .0 + period .0) → waitOrAsk asked answered period ≡ Wait until
-    back h =
-        let same : later asked period .0 ≡ until .0 = omega (arith, h .1) in
-        in-time asked answered period (h .0) ∙ ap (λ (x : ℕ). Wait (micros x)) same
+    back : (answered .0 - asked .0 ≤ period .0) × (until ≡ asked .0 + period .0) → fade.waits (waitOrAsk asked answered period) ≡ until ∷ []
+    back h = ap fade.waits (in-time asked answered period (h .0)) ∙ one (later asked period .0) until (omega (arith, h .1))
 
-asks : (asked answered period : Micros) → (waitOrAsk asked answered period ≡ Ask) ↔ (period .0 < answered .0 - asked .0)
-asks asked answered period = (go (leb (answered .0 - asked .0) (period .0)) refl, late asked answered period)
+asks : (asked answered period : Micros) → (fade.waits (waitOrAsk asked answered period) ≡ []) ↔ (period .0 < answered .0 - asked .0)
+asks asked answered period = (go (leb (answered .0 - asked .0) (period .0)) refl, λ h. ap fade.waits (late asked answered period h))
   where
-    go : (b : Bool) → leb (answered .0 - asked .0) (period .0) ≡ b → waitOrAsk asked answered period ≡ Ask → period .0 < answered .0 - asked .0
+    go : (b : Bool) → leb (answered .0 - asked .0) (period .0) ≡ b → fade.waits (waitOrAsk asked answered period) ≡ [] → period .0 < answered .0 - asked .0
     go true e h =
-        absurd (let p = sym (in-time asked answered period (leb-true (answered .0 - asked .0) (period .0) e)) ∙ h in let z : _≡_ {A = ℕ} 0 1 = cc in omega arith)
+        absurd (none-is-not-one (later asked period .0) (sym h ∙ ap fade.waits (in-time asked answered period (leb-true (answered .0 - asked .0) (period .0) e))))
     go false e h = leb-false (answered .0 - asked .0) (period .0) e
 
 -- Part 8
@@ -310,9 +319,6 @@ unfolding movePeriod
 move-period rate pos = (below-it rate 0 pos, above-it rate 0 pos)
 
 -- Part 10
-
-known-is : (a b : ℕ) → Known a ≡ Known b → a ≡ b
-known-is a b e = cc
 
 module _ (ids values : List ℕ) where
   abbrev first-pair : (p : Pair) → First decides (pairs ids values) p → sceneLevel ids values ≡ Known (p .value)
@@ -367,22 +373,43 @@ rule-laws = record {
   coupling = coupling;
   target-255 = λ lo hi. (target-kept 255 lo hi (omega arith), refl);
   target-held = λ level lo hi h g. rw (target-clamped level lo hi h) (omega arith, omega arith);
+  target-clamped = λ level lo hi h g. rw (target-clamped level lo hi h) (λ k. omega arith, λ k. omega arith);
+  step-up = value.step-up;
+  step-down = value.step-down;
   target-stays = λ level lo hi h g k. rw (target-clamped level lo hi h) (omega arith);
   step-time = step-time;
   step-12 = step-12;
   step-no-time = step-no-time;
   rate-10 = rate-10;
   rate-taken = rate-taken;
-  fade-period = fade-period;
+  fade-period = task.fade-period;
   remaining-falls = remaining-falls;
   remaining-ends = remaining-ends;
   counter-moves = counter-moves;
   counter-jumps = counter-jumps;
   waits = waits;
   asks = asks;
+  start = task.start;
+  begin-11 = λ level r now. task.begin-11 r now level;
+  begin-reached = λ level r now. task.begin-reached r now level;
+  begin-asks = λ level r now asked. task.begin-asks r now level asked;
+  begin-fade = λ c r now f h. task.begin-fade r now c f h;
   move-nearest = move-nearest;
   move-period = move-period;
+  move-11 = task.move-11;
+  move-up = task.move-up;
+  move-down = task.move-down;
+  move-passes = task.move-passes;
+  move-end = task.move-end;
+  at-limit = task.at-limit;
+  stored-back = task.stored-back;
   scene-known = scene-known;
   scene-missing = scene-missing;
+  same-level = value.same-level;
+  outside = value.outside;
+  rate-0 = value.rate-0;
+  turn-answer = value.turn-answer;
+  turn-wake = value.turn-wake;
+  turn-start-up = value.turn-start-up;
   cause = cause;
 }

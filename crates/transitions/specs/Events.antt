@@ -35,6 +35,13 @@ turnOf (kind.SetDefaultMoveRate r) = turn.Other
 turnOf (kind.SetStartUpCurrentLevel l) = turn.Other
 turnOf kind.FactoryReset = turn.Other
 
+-- those causes
+abbrev pub turnCauses : Turn → List ℕ
+turnCauses turn.StartUp = 6 ∷ 9 ∷ []
+turnCauses turn.Answer = 7 ∷ []
+turnCauses turn.Wake = 6 ∷ 8 ∷ []
+turnCauses turn.Other = 6 ∷ []
+
 -- Lists of actions.
 
 abbrev pub action : ActionKind → ℕ → Action

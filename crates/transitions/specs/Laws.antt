@@ -3,34 +3,63 @@ use Prim.Native.Nat.{ℕ, _/_, _+_, _-_, _*_, _≤_, _<_}
 use mathlib.Core.Bool.{Bool, true, false}
 use mathlib.Core.Path.{_≡_}
 use mathlib.Core.Logic.{_↔_, _⊎_}
-use mathlib.Core.List.{List}
-use lib.Dec.{ltb}
+use mathlib.Core.List.{List, [], _∷_}
 use Rattle.units.specs.Numbers.{apart}
 use Rattle.units.specs.Units.{tenths, isZero}
 use Rattle.units.specs.declared.Tenths.{Tenths}
 use Rattle.units.specs.declared.Millis.{Millis}
 use Rattle.units.specs.declared.Micros.{Micros}
 use Rattle.transitions.specs.Search.{NoneOf, First}
-use Rattle.transitions.specs.Types.{executesIfOff, rateOr}
+use Rattle.transitions.specs.Types.{executesIfOff, rateOr, sameLevel, isOutside, isZeroRate}
+use Rattle.transitions.specs.Events.{turnOf, turnCauses}
 use Rattle.transitions.specs.RemainingTime.{remainingTimeDue}
 use Rattle.transitions.specs.Options.{shouldContinue}
 use Rattle.transitions.specs.CurrentLevel.{currentLevelDue}
-use Rattle.transitions.specs.Coupling.{coupledOnOff}
-use Rattle.transitions.specs.Commands.{targetLevel, consultsOptions, stepTime, stepTimeNumber, rateInForce, moveRateNumber}
-use Rattle.transitions.specs.Fade.{fadePeriod, remainingAfter, nextLevel, waitOrAsk}
+use Rattle.transitions.specs.Coupling.{coupledOnOff, coupledValues}
+use Rattle.transitions.specs.Commands.{targetLevel, consultsOptions, stepLevel, stepTime, stepTimeNumber, rateInForce, moveRateNumber}
+use Rattle.transitions.specs.Fade.{fadePeriod, isTransitionStart, remainingAfter, nextLevel, waitOrAsk}
+use Rattle.transitions.specs.Fade as fade
+use Rattle.transitions.specs.Tasks.{beginFade, beginNumber, beginRequests, levelToRestore, nextMove, moveStepNumber, moveStepRequests, isMoveEnd, atLimit}
 use Rattle.transitions.specs.Moves.{movePeriod}
 use Rattle.transitions.specs.Scene.{Pair, pairs, decides, sceneLevel}
 use Rattle.transitions.specs.Causes.{Row, rows, firstCause}
 use Rattle.transitions.specs.declared.types.Level.{Level}
 use Rattle.transitions.specs.declared.types.Level.the-variants.{Known, Missing}
+use Rattle.transitions.specs.declared.types.Mode.{Mode}
+use Rattle.transitions.specs.declared.types.Mode.the-variants.{Up, Down}
 use Rattle.transitions.specs.declared.types.Rate.{Rate}
+use Rattle.transitions.specs.declared.types.Rate.the-variants as rate
 use Rattle.transitions.specs.declared.types.Time.the-variants as time
 use Rattle.transitions.specs.declared.types.OptionsBitmap.{OptionsBitmap}
 use Rattle.transitions.specs.declared.causes.Tests.{Tests}
-use Rattle.transitions.specs.declared.coupling.Coupling.the-variants.{Sent}
+use Rattle.transitions.specs.declared.events.DeviceAnswer.{DeviceAnswer}
+use Rattle.transitions.specs.declared.events.EventKind.{EventKind}
+use Rattle.transitions.specs.declared.events.EventKind.the-variants as kind
 use Rattle.transitions.specs.declared.commands.StepTime.the-variants.{Takes}
 use Rattle.transitions.specs.declared.commands.MoveRate.the-variants.{Goes}
-use Rattle.transitions.specs.declared.fade.Next.the-variants.{Wait, Ask}
+use Rattle.transitions.specs.declared.tasks.AfterFade.{AfterFade}
+use Rattle.transitions.specs.declared.tasks.AfterFade.the-variants.{Restore}
+use Rattle.transitions.specs.declared.tasks.Begin.the-variants.{Reached, Starts}
+use Rattle.transitions.specs.declared.tasks.Fade.{Fade}
+use Rattle.transitions.specs.declared.tasks.FadeRequest.{FadeRequest}
+use Rattle.transitions.specs.declared.tasks.MoveStep.the-variants.{Ends}
+use Rattle.transitions.specs.declared.tasks.Phase.the-variants.{Asked}
+
+-- a fade that begins at a level c, as a request asks: part 7
+pub record BeginsAt (c : ℕ) (r : FadeRequest) (now : Micros) (f : Fade) : Type 0 where
+  -- with or without on/off, a scene's or not, t and T: the request's
+  pub its-on-off : f .«with_on_off» ≡ r .«with_on_off»
+  pub its-scene : f .«scene_apply» ≡ r .«scene_apply»
+  pub its-target : f .target ≡ r .target
+  pub its-time : f .«transition_time» ≡ r .«transition_time»
+  -- the remaining time is 100·T; "n = |t − c|; period = 100·T ÷ n milliseconds, rounded down"
+  pub remains : f .remaining .0 ≡ 100 * r .«transition_time» .0
+  pub rounds-down : let n = apart (r .target) c in
+      (n * f .period .0 ≤ 100 * r .«transition_time» .0) × (100 * r .«transition_time» .0 < n * (f .period .0 + 1))
+  -- what it puts back afterwards is c, exactly if it is to restore
+  pub restores : (before : ℕ) → (f .after ≡ Restore before) ↔ ((r .restores ≡ true) × (before ≡ c))
+  -- its request is open since now
+  pub asked-now : f .phase ≡ Asked now
 
 pub record Laws : Type 0 where
   -- Part 2: the remaining time is reported exactly if a non-zero time becomes 0, or 0 becomes more than 10, or it changes by more than 10 at the start of a fade
@@ -49,14 +78,23 @@ pub record Laws : Type 0 where
   pub end-report : (gap last now : Micros) (old new : Level) → currentLevelDue gap last now true old new ≡ true
   pub missing-report : (gap last now : Micros) (end : Bool) (l : Level)
       → (currentLevelDue gap last now end Missing l ≡ true) × (currentLevelDue gap last now end l Missing ≡ true)
-  -- Part 5: C v exactly if with-on-off and coupled, v says whether the level is above MIN, and v differs from on/off
-  pub coupling : (withOnOff coupled on : Bool) (min level : ℕ) (v : Bool)
-      → (coupledOnOff withOnOff coupled on min level ≡ Sent v)
-      ↔ ((withOnOff ≡ true) × (coupled ≡ true) × (v ≡ ltb min level) × (v ≡ on → ⊥))
+  -- Part 5: C v exactly if with-on-off and coupled, and v is 1 where the level is above MIN and it is off, 0 where it is not above and it is on
+  pub coupling : (withOnOff coupled on : Bool) (min level v : ℕ)
+      → (coupledValues (coupledOnOff withOnOff coupled on min level) ≡ v ∷ [])
+      ↔ ((withOnOff ≡ true) × (coupled ≡ true)
+      × (((v ≡ 1) × (min < level) × (on ≡ false)) ⊎ ((v ≡ 0) × (level ≤ min) × (on ≡ true))))
   -- Part 6: 255 stays 255 and the options are not looked at; a lower target lies within MIN..MAX, and is as it was if it lay there
   pub target-255 : (lo hi : ℕ) → (targetLevel 255 lo hi ≡ 255) × (consultsOptions 255 ≡ false)
   pub target-held : (level lo hi : ℕ) → level ≤ 254 → lo ≤ hi → (lo ≤ targetLevel level lo hi) × (targetLevel level lo hi ≤ hi)
   pub target-stays : (level lo hi : ℕ) → level ≤ 254 → lo ≤ level → level ≤ hi → targetLevel level lo hi ≡ level
+  -- one that lay outside becomes the nearer end
+  pub target-clamped : (level lo hi : ℕ) → level ≤ 254 → lo ≤ hi
+      → (level ≤ lo → targetLevel level lo hi ≡ lo) × (hi ≤ level → targetLevel level lo hi ≡ hi)
+  -- a step goes to the sum, capped at MAX, or to the difference, raised to MIN
+  pub step-up : (level size lo hi : ℕ) → hi ≤ 255
+      → (level + size ≤ hi → stepLevel Up level size lo hi ≡ level + size) × (hi ≤ level + size → stepLevel Up level size lo hi ≡ hi)
+  pub step-down : (level size lo hi : ℕ)
+      → (lo + size ≤ level → stepLevel Down level size lo hi + size ≡ level) × (level ≤ lo + size → stepLevel Down level size lo hi ≡ lo)
   -- a step's time T′: size·T′ ≤ given·actual < size·(T′ + 1)
   pub step-time : (given actual size : ℕ) (t : Tenths) → 1 ≤ size → stepTime (time.Known (tenths given)) actual size ≡ Takes t
       → (size * t .0 ≤ given * actual) × (given * actual < size * (t .0 + 1))
@@ -79,21 +117,53 @@ pub record Laws : Type 0 where
   pub counter-moves : (counter target : ℕ) (time : Tenths) → 1 ≤ time .0 → (counter ≡ target → ⊥)
       → (apart counter (nextLevel counter target time) ≡ 1) × (apart (nextLevel counter target time) target + 1 ≡ apart counter target)
   pub counter-jumps : (counter target : ℕ) → nextLevel counter target (tenths 0) ≡ target
-  -- it waits until the request's time and the period exactly if the period is at least the answer's time less the request's
-  pub waits : (asked answered period until : Micros) → asked .0 + period .0 ≤ 18446744073709551615
-      → (waitOrAsk asked answered period ≡ Wait until) ↔ ((answered .0 - asked .0 ≤ period .0) × (until .0 ≡ asked .0 + period .0))
+  -- W: it waits until the request's time and the period exactly if the period is at least the answer's time less the request's; else no W
+  pub waits : (asked answered period : Micros) (until : ℕ) → asked .0 + period .0 ≤ 18446744073709551615
+      → (fade.waits (waitOrAsk asked answered period) ≡ until ∷ []) ↔ ((answered .0 - asked .0 ≤ period .0) × (until ≡ asked .0 + period .0))
   pub asks : (asked answered period : Micros)
-      → (waitOrAsk asked answered period ≡ Ask) ↔ (period .0 < answered .0 - asked .0)
+      → (fade.waits (waitOrAsk asked answered period) ≡ []) ↔ (period .0 < answered .0 - asked .0)
+  -- "start" holds exactly while the unrounded remaining time equals 100·T
+  pub start : (remaining : Millis) (time : Tenths) → (isTransitionStart remaining time ≡ true) ↔ (remaining .0 ≡ 100 * time .0)
+  -- E 11 exactly from a missing level; a target equal to the current level is reached, and no other
+  pub begin-11 : (level : Level) (r : FadeRequest) (now : Micros) → (beginNumber (beginFade level r now) ≡ 11) ↔ (level ≡ Missing)
+  pub begin-reached : (level : Level) (r : FadeRequest) (now : Micros) → (beginFade level r now ≡ Reached) ↔ (level ≡ Known (r .target))
+  -- from any other level a fade begins, and asks first for the level that its counter moves to
+  pub begin-asks : (level : Level) (r : FadeRequest) (now : Micros) (asked : ℕ)
+      → (beginRequests (beginFade level r now) ≡ asked ∷ [])
+      ↔ ((c : ℕ) × (level ≡ Known c) × (c ≡ r .target → ⊥) × (asked ≡ nextLevel c (r .target) (r .«transition_time»)))
+  pub begin-fade : (c : ℕ) (r : FadeRequest) (now : Micros) (f : Fade) → beginFade (Known c) r now ≡ Starts f → BeginsAt c r now f
   -- Part 8: no whole number of µs, times the rate, is nearer to 1,000,000 than the period is
   pub move-nearest : (rate q : ℕ) → 1 ≤ rate → apart (rate * movePeriod rate .0) 1000000 ≤ apart (rate * q) 1000000
   -- "(1,000,000 + rate ÷ 2) ÷ rate, both divisions rounded down", so of two that are as near the longer
   pub move-period : (rate : ℕ) → 1 ≤ rate
       → (rate * movePeriod rate .0 ≤ 1000000 + rate / 2) × (1000000 + rate / 2 < rate * (movePeriod rate .0 + 1))
+  -- E 11 exactly from a missing level
+  pub move-11 : (level : Level) (mode : Mode) → (moveStepNumber (nextMove level mode) ≡ 11) ↔ (level ≡ Missing)
+  -- it "steps from the stored level", by one, up or down, and ends exactly if it would pass 255 or 0
+  pub move-up : (c asked : ℕ) → (moveStepRequests (nextMove (Known c) Up) ≡ asked ∷ []) ↔ ((asked ≡ c + 1) × (asked ≤ 255))
+  pub move-down : (c asked : ℕ) → (moveStepRequests (nextMove (Known c) Down) ≡ asked ∷ []) ↔ (asked + 1 ≡ c)
+  pub move-passes : (c : ℕ) → ((nextMove (Known c) Up ≡ Ends) ↔ (255 < c + 1)) × ((nextMove (Known c) Down ≡ Ends) ↔ (c < 1))
+  -- it ends exactly if the asked level is MIN or MAX
+  pub move-end : (asked lo hi : ℕ) → (isMoveEnd asked lo hi ≡ true) ↔ ((asked ≡ lo) ⊎ (asked ≡ hi))
+  -- nothing happens exactly at MIN going down or at MAX going up
+  pub at-limit : (level : Level) (mode : Mode) (lo hi : ℕ)
+      → (atLimit level mode lo hi ≡ true) ↔ (((mode ≡ Down) × (level ≡ Known lo)) ⊎ ((mode ≡ Up) × (level ≡ Known hi)))
+  -- Part 9: the level before is stored back exactly if the fade is to restore it and the on level is missing
+  pub stored-back : (after : AfterFade) (onLevel : Level) (before : ℕ)
+      → (levelToRestore after onLevel ≡ Known before) ↔ ((after ≡ Restore before) × (onLevel ≡ Missing))
   -- Part 10: the value of the first pair that decides, exactly; missing exactly if none does
   pub scene-known : (ids values : List ℕ) (v : ℕ)
       → (sceneLevel ids values ≡ Known v) ↔ ((p : Pair) × First decides (pairs ids values) p × (p .value ≡ v))
   pub scene-missing : (ids values : List ℕ) → (sceneLevel ids values ≡ Missing) ↔ NoneOf decides (pairs ids values)
-  -- Causes: a number is that of the first row that applies, exactly; 0 without such a row exactly if none applies
+  -- a level "changed" exactly if it is another; "set level outside MIN..MAX" and "set rate 0" are said of known values alone
+  pub same-level : (a b : Level) → (sameLevel a b ≡ true) ↔ (a ≡ b)
+  pub outside : (level : Level) (lo hi : ℕ) → (isOutside level lo hi ≡ true) ↔ ((c : ℕ) × (level ≡ Known c) × ((c < lo) ⊎ (hi < c)))
+  pub rate-0 : (r : Rate) → (isZeroRate r ≡ true) ↔ (r ≡ rate.Known 0)
+  -- Causes: of 6 to 9, an answer alone may meet 7 and not 6; 8 is a wake's alone, 9 start-up's
+  pub turn-answer : (k : EventKind) → (turnCauses (turnOf k) ≡ 7 ∷ []) ↔ ((a : DeviceAnswer) × (k ≡ kind.Answer a))
+  pub turn-wake : (k : EventKind) → (turnCauses (turnOf k) ≡ 6 ∷ 8 ∷ []) ↔ (k ≡ kind.Wake)
+  pub turn-start-up : (k : EventKind) → (turnCauses (turnOf k) ≡ 6 ∷ 9 ∷ []) ↔ (k ≡ kind.StartUp)
+  -- a number is that of the first row that applies, exactly; 0 without such a row exactly if none applies
   pub cause : (t : Tests) (n : ℕ)
       → (firstCause t ≡ n)
       ↔ (((r : Row) × First (λ r. r .applies) (rows t) r × (r .number ≡ n)) ⊎ (NoneOf (λ r. r .applies) (rows t) × (n ≡ 0)))

@@ -1,6 +1,7 @@
 -- "How events run" of document 01, and how a fade (part 7) and a move (part 8) begin and go on.
 use Prim.Native.Nat.{ℕ, _+_, _-_}
 use mathlib.Core.Bool.{Bool, true, false, cond, _||_}
+use mathlib.Core.List.{List, [], _∷_}
 use lib.Dec.{ltb, eqb}
 use Rattle.units.specs.Numbers.{apart}
 use Rattle.units.specs.Units.{tenthsToMillis, millisToMicros, atMost}
@@ -126,6 +127,18 @@ unfoldable pub beginFade : Level → FadeRequest → Micros → Begin
 beginFade (Known from) r now = cond (eqb from (r .target)) begin.Reached (begin.Starts (fadeFrom from r now))
 beginFade Missing r now = begin.Lost
 
+-- in E: "11 for a fade or move from a missing level"
+abbrev pub beginNumber : Begin → ℕ
+beginNumber begin.Reached = 0
+beginNumber begin.Lost = 11
+beginNumber (begin.Starts f) = 0
+
+-- the levels of the D actions that a beginning stands for
+abbrev pub beginRequests : Begin → List ℕ
+beginRequests begin.Reached = []
+beginRequests begin.Lost = []
+beginRequests (begin.Starts f) = f .counter ∷ []
+
 -- Moves.
 
 abbrev pub moveAsking : MoveCourse → ℕ → Micros → Move
@@ -139,6 +152,18 @@ unfoldable pub nextMove : Level → Mode → MoveStep
 nextMove (Known from) Up = cond (ltb from 255) (step.Asks (from + 1)) step.Ends
 nextMove (Known from) Down = cond (ltb 0 from) (step.Asks (from - 1)) step.Ends
 nextMove Missing mode = step.Lost
+
+-- in E, as above
+abbrev pub moveStepNumber : MoveStep → ℕ
+moveStepNumber step.Lost = 11
+moveStepNumber step.Ends = 0
+moveStepNumber (step.Asks level) = 0
+
+-- the levels of the D actions that a step of a move stands for
+abbrev pub moveStepRequests : MoveStep → List ℕ
+moveStepRequests step.Lost = []
+moveStepRequests step.Ends = []
+moveStepRequests (step.Asks level) = level ∷ []
 
 -- "ends when the asked level is MIN or MAX"
 abbrev pub isMoveEnd : ℕ → ℕ → ℕ → Bool

@@ -1,11 +1,14 @@
 -- The laws of the units' definitions. Assumes nothing.
 use Prim.Native.Nat.{ℕ, _+_, _-_, _*_, _/_, _%_, _^_, _≤_, _<_}
+use mathlib.Core.Bool.{Bool, true, false}
 use mathlib.Core.Path.{_≡_, refl, sym, ap, _∙_}
-use native.Mathlib.Nat.{add-div-right, div-eq-of-lt, div-zero, div-le-self, mul-le-mul}
+use mathlib.Core.Logic.{_↔_}
+use native.Mathlib.Nat.{add-div-right, div-eq-of-lt, div-zero, div-le-self, mul-le-mul, mul-div-le, lt-mul-div-succ}
 use native.Mathlib.Omega.{arith}
-use borrow.Author.Tests.{lt-ltb, le-ltb}
+use borrow.Author.Tests.{lt-ltb, le-ltb, ltb-true, ltb-false}
+use lib.Dec.{ltb}
 use Rattle.units.specs.Numbers.{divCeil}
-use Rattle.units.specs.Units.{tenths, micros, scaledFloor}
+use Rattle.units.specs.Units.{tenths, micros, scaledFloor, scaledNumber}
 use Rattle.units.specs.declared.Tenths.{Tenths}
 use Rattle.units.specs.declared.Scaled.the-variants.{Fits, Overflow}
 use Rattle.units.specs.Laws.{Laws}
@@ -41,8 +44,33 @@ pub scaled-fits : (t : Tenths) (factor divisor : ℕ) {q : ℕ} → t .0 * facto
 unfolding scaledFloor
 scaled-fits t factor divisor h e = simp (le-ltb 65535 (t .0 * factor) h, e)
 
+scaled-12 : (t : Tenths) (factor divisor : ℕ) → (scaledNumber (scaledFloor t factor divisor) ≡ 12) ↔ (65535 < t .0 * factor)
+scaled-12 t factor divisor = (go (ltb 65535 (t .0 * factor)) refl, λ h. sym (ap scaledNumber (scaled-overflows t factor divisor h)))
+  where
+    go : (b : Bool) → ltb 65535 (t .0 * factor) ≡ b → scaledNumber (scaledFloor t factor divisor) ≡ 12 → 65535 < t .0 * factor
+    go true e h = ltb-true 65535 (t .0 * factor) e
+    go false e h =
+        absurd (let z : _≡_ {A = ℕ} 0 12 = ap scaledNumber (scaled-fits t factor divisor (ltb-false 65535 (t .0 * factor) e) refl) ∙ h in omega arith)
+
+fits-is : (s t : Tenths) → Fits s ≡ Fits t → s .0 ≡ t .0
+fits-is s t e = ap (λ (x : Tenths). x .0) (cc)
+
+scaled-rounds-down : (t q : Tenths) (factor divisor : ℕ) → 1 ≤ divisor → scaledFloor t factor divisor ≡ Fits q
+    → (divisor * q .0 ≤ t .0 * factor) × (t .0 * factor < divisor * (q .0 + 1))
+scaled-rounds-down t q factor divisor pos h = go (ltb 65535 (t .0 * factor)) refl
+  where
+    go : (b : Bool) → ltb 65535 (t .0 * factor) ≡ b → (divisor * q .0 ≤ t .0 * factor) × (t .0 * factor < divisor * (q .0 + 1))
+    go true e =
+        absurd (let p = scaled-overflows t factor divisor (ltb-true 65535 (t .0 * factor) e) ∙ h in let z : _≡_ {A = ℕ} 0 1 = cc in omega arith)
+    go false e =
+        let same : t .0 * factor / divisor ≡ q .0 = fits-is (tenths (t .0 * factor / divisor)) q (scaled-fits t factor divisor (ltb-false 65535 (t .0 * factor) e) refl ∙ h) in
+        rw (← same) (mul-div-le (t .0 * factor) divisor, lt-mul-div-succ (t .0 * factor) pos)
+
 pub unit-laws : Laws
 unit-laws = record {
+  tenth-in-millis = λ t. omega arith;
+  milli-in-micros = λ ms. omega arith;
+  second-in-micros = λ t. omega arith;
   up-covers = λ ms h. omega arith;
   up-is-least = λ ms. omega arith;
   down-is-covered = λ ms. omega arith;
@@ -52,4 +80,7 @@ unit-laws = record {
   down-returns = λ t h. ap tenths (omega arith);
   later-elapsed = λ at span h. ap micros (omega arith);
   later-is-later = λ at span h. omega arith;
+  scaled-12 = scaled-12;
+  scaled-rounds-down = scaled-rounds-down;
+  apart-between = λ a b h. (omega arith, omega arith);
 }

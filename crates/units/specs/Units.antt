@@ -52,6 +52,11 @@ tenthsApart a b = tenths (apart (a .0) (b .0))
 unfoldable pub scaledFloor : Tenths → ℕ → ℕ → Scaled
 scaledFloor t factor divisor = cond (ltb 65535 (t .0 * factor)) Overflow (Fits (tenths (t .0 * factor / divisor)))
 
+-- "shortened step's product above 65,535": 12
+abbrev pub scaledNumber : Scaled → ℕ
+scaledNumber (Fits t) = 0
+scaledNumber Overflow = 12
+
 abbrev pub millisSame : Millis → Millis → Bool
 millisSame a b = eqb (a .0) (b .0)
 
