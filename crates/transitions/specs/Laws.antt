@@ -90,6 +90,8 @@ pub record Laws : Type 0 where
   -- one that lay outside becomes the nearer end
   pub target-clamped : (level lo hi : ℕ) → level ≤ 254 → lo ≤ hi
       → (level ≤ lo → targetLevel level lo hi ≡ lo) × (hi ≤ level → targetLevel level lo hi ≡ hi)
+  -- "lower targets: options": they are looked at exactly for a target of at most 254
+  pub target-options : (level : ℕ) → (consultsOptions level ≡ true) ↔ (level ≤ 254)
   -- a step goes to the sum, capped at MAX, or to the difference, raised to MIN
   pub step-up : (level size lo hi : ℕ) → hi ≤ 255
       → (level + size ≤ hi → stepLevel Up level size lo hi ≡ level + size) × (hi ≤ level + size → stepLevel Up level size lo hi ≡ hi)
