@@ -2,6 +2,7 @@
 // Derived from level_control.rs of project-chip/rs-matter 43f61585a4 (see NOTICE), and changed: what the source does by
 // calls (to the device, the store, the other cluster, the reports) is a list of actions here.
 use crate::state::LevelControlState;
+use transitions::action_list::report_list;
 use transitions::coupling::Coupling;
 use transitions::events::Action;
 use transitions::events::ActionKind;
@@ -109,15 +110,24 @@ impl Answer {
         self.push(ActionKind::W, until.0)
     }
 
+    // The list is made first: a `push` copies the whole answer.
     pub fn reporting(state: LevelControlState, reports: Reports) -> Answer
         ensures { λ r. ⌜ r ≡ packed (done state (reportsOf reports)) ⌝ }
     {
         let coupling = reports.coupling;
-        Answer::accepted(state)
-            .push_if(reports.stored, ActionKind::P)
-            .push_if(reports.scene, ActionKind::S)
-            .push_coupling(coupling)
-            .push_if(reports.level, ActionKind::L)
-            .push_if(reports.time, ActionKind::R)
+        let list = report_list(
+            reports.stored,
+            reports.scene,
+            coupling,
+            reports.level,
+            reports.time,
+        );
+        let actions = list.actions;
+        Answer {
+            number: 0,
+            state: state,
+            actions: actions,
+            count: list.count,
+        }
     }
 }

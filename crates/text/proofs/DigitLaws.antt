@@ -5,10 +5,12 @@ use mathlib.Core.Path.{_≡_, refl, sym, ap, _∙_}
 use mathlib.Core.Bool.{Bool, true, false}
 use mathlib.Core.List.{List, [], _∷_, _++_}
 use native.Mathlib.Nat.{pow-succ'}
+use native.Mathlib.Numerals.{sub-one}
 use native.Mathlib.Omega.{arith}
 use borrow.Author.Tests.{lt-ltb, le-ltb, ltb-true, ltb-false}
 use lib.Dec.{ltb}
-use lib.ListN.{length, getD, length-append, List·getD-append}
+use lib.ListN.{length, getD, set, drop, length-append, List·getD-append}
+use lib.Seq.{append-snoc}
 use Rattle.text.specs.Text.{Wrote, most, digits, digitsWithin}
 use Rattle.text.specs.Laws.{readAfter, readDigits, All, Digit}
 use Rattle.text.proofs.WriteLaws.{then}
@@ -70,10 +72,29 @@ pub digits-at-most : (x : ℕ) → length (digits x) ≤ 20
 unfolding digits
 digits-at-most x = within-at-most 20 x
 
--- the digits of x / 10, and the last digit after them
-pub decimal-more : (x : ℕ) {old mid new : List ℕ} {at p r : ℕ} → x < 2 ^ 64 → 10 ≤ x → length old ≤ most
-    → Wrote old at (digits (x / 10)) mid p → Wrote mid p ((code "0" + x % 10) ∷ []) new r → Wrote old at (digits x) new r
-decimal-more x b g h w v = rw (digits-more x b g) (then h w v)
+-- Digits found from the last one on: those of `rest`, then those that the array has from `first` on.
+
+-- where a second digit is left, a place is left for it
+pub place-left : (first rest : ℕ) → 10 ≤ rest → rest < 10 ^ first → (1 ≤ first) × (rest / 10 < 10 ^ (first - 1))
+place-left zero rest g h = absurd (omega arith)
+place-left (suc n) rest g h = rw sub-one (omega arith, omega (arith, pow-succ' 10 n))
+
+drop-set : (l : List ℕ) (i d : ℕ) → i < length l → drop i (set l i d) ≡ d ∷ drop (suc i) l
+drop-set [] i d h = absurd (omega arith)
+drop-set (y ∷ l) zero d h = refl
+drop-set (y ∷ l) (suc i) d h = drop-set l i d (omega arith)
+
+-- the last digit of `rest` put before those found
+pub digit-found : (x rest first : ℕ) (tail : List ℕ) → rest < 2 ^ 64 → 10 ≤ rest → 1 ≤ first → first ≤ length tail
+    → digits x ≡ digits rest ++ drop first tail → digits x ≡ digits (rest / 10) ++ drop (first - 1) (set tail (first - 1) (code "0" + rest % 10))
+digit-found x rest zero tail b g p h e = absurd (omega arith)
+digit-found x rest (suc i) tail b g p h e =
+    rw (sub-one, drop-set tail i (code "0" + rest % 10) (omega arith)) (e ∙ rw (digits-more rest b g) (append-snoc (digits (rest / 10)) (code "0" + rest % 10) (drop (suc i) tail)))
+
+-- the first digit, and those found
+pub decimal-done : (x rest : ℕ) {tail old mid new : List ℕ} {at p r : ℕ} → rest < 10 → length old ≤ most → digits x ≡ digits rest ++ tail
+    → Wrote old at ((code "0" + rest) ∷ []) mid p → Wrote mid p tail new r → Wrote old at (digits x) new r
+decimal-done x rest g h e w v = rw (e, digits-one rest g) (then h w v)
 
 -- the last digit counts one, those before it ten
 read-last : (n : ℕ) (ds : List ℕ) (d : ℕ) → readAfter n (ds ++ (d ∷ [])) ≡ 10 * readAfter n ds + (d - code "0")

@@ -1,11 +1,12 @@
 -- Laws of `Wrote`: one text after another, and how far a text moves the position. Assumes nothing.
-use Prim.Native.Nat.{ℕ, suc, _+_, _≤_}
+use Prim.Native.Nat.{ℕ, suc, _+_, _≤_, _<_}
 use mathlib.Core.Path.{_≡_, refl, sym, _∙_}
 use mathlib.Core.List.{List, [], _∷_, _++_}
 use native.Mathlib.Nat.{add-zero, add-suc, suc-add}
+use native.Mathlib.Numerals.{add-one}
 use native.Mathlib.Omega.{arith, min-cases}
-use lib.ListN.{length, set, length-append}
-use lib.Seq.{sets, length-sets, set-out}
+use lib.ListN.{length, set, getD, drop, length-append, drop-of-length-le}
+use lib.Seq.{sets, length-sets, set-out, drop-cons}
 use Rattle.text.specs.Text.{Wrote, most}
 
 -- past the end nothing is written
@@ -39,3 +40,12 @@ none-wrote h = record { bytes = refl; next = omega arith }
 -- a text moves the position by its length at most
 pub at-most : {old new text : List ℕ} {at r n : ℕ} → Wrote old at text new r → length text ≤ n → r ≤ at + n
 at-most w h = omega (arith, w .next)
+
+-- a byte of a list, and those after it
+pub tail-more : (tail : List ℕ) (i d : ℕ) {old mid new : List ℕ} {at p r : ℕ} → length old ≤ most → i < length tail
+    → Wrote old at (getD tail i d ∷ []) mid p → Wrote mid p (drop (i + 1) tail) new r → Wrote old at (drop i tail) new r
+tail-more tail i d h g w v = rw (drop-cons tail i d g) (then h w (rw add-one at v))
+
+-- past the end of a list nothing is left to write
+pub tail-done : (tail : List ℕ) (i : ℕ) {old : List ℕ} {at : ℕ} → at ≤ most → length tail ≤ i → Wrote old at (drop i tail) old at
+tail-done tail i h g = rw (drop-of-length-le tail g) (none-wrote h)

@@ -5,7 +5,7 @@ pub mod line;
 ghost use mathlib.Core.Path.{_≡_};
 ghost use mathlib.Core.List.{[], _∷_};
 ghost use Prim.Native.Nat.{_≤_, min};
-ghost use lib.ListN.{length, take};
+ghost use lib.ListN.{drop, length, take};
 ghost use Rattle.text.specs.Laws.{Laws};
 ghost use Rattle.text.specs.Text.{Wrote, digits};
 
@@ -20,17 +20,38 @@ pub fn put(out: &mut [u8], at: usize, b: u8) -> usize
     if at < usize::MAX { at + 1 } else { at }
 }
 
-// A number in decimal, with no leading zeros, and the position past it. It calls itself once for each digit but the first.
+// A number in decimal, with no leading zeros, and the position past it. The digits after the first are found from the last one on;
+// most numbers of a line have one digit, and need no search.
 pub fn put_decimal(out: &mut [u8], at: usize, x: u64) -> usize
     ensures { λ r. ⌜ Wrote (now (out .entry)) at (digits x) (now (out .exit)) r ⌝ }
 {
     if x < 10 {
         return put(out, at, b'0' + x as u8);
     }
-    let rest = x / 10;
-    let digit = x % 10;
-    let next = put_decimal(out, at, rest);
-    put(out, next, b'0' + digit as u8)
+    let mut tail = [0u8; 20];
+    let mut rest = x;
+    let mut first = 20;
+    while 10 <= rest {
+        first -= 1;
+        let digit = rest % 10;
+        tail[first] = b'0' + digit as u8;
+        rest = rest / 10;
+    }
+    let next = put(out, at, b'0' + rest as u8);
+    put_tail(out, next, tail, first)
+}
+
+// The bytes from `first` on, and the position past them.
+fn put_tail(out: &mut [u8], at: usize, tail: [u8; 20], first: usize) -> usize
+    ensures { λ r. ⌜ Wrote (now (out .entry)) at (drop first tail) (now (out .exit)) r ⌝ }
+{
+    let mut next = at;
+    let mut i = first;
+    while i < 20 {
+        next = put(out, next, tail[i]);
+        i += 1;
+    }
+    next
 }
 
 // n, or the slice's length where n is larger, so that `&out[..front(n, &out)]` is always there.

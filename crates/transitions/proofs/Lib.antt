@@ -1,4 +1,5 @@
 pub mod Booleans
+pub mod ActionListLaws
 pub mod SearchLaws
 pub mod SceneLaws
 pub mod ValueLaws

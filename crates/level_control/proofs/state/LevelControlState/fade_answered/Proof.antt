@@ -1,5 +1,4 @@
 use Rattle.level_control.specs.Fades.{fadeAnswered}
-use borrow.Author.Needs.{needs}
 use Rattle.level_control.proofs.state.LevelControlState.fade_answered.Statement.{statement}
 use Rattle.level_control.proofs.state.LevelControlState.fade_answered.Tie as tie
 
@@ -19,11 +18,11 @@ pub fade-answered-spec : {M : Type 1} → statement M
 fade-answered-spec =
     tie.close
     (tie.spec
-    (λ c. search needs)
+    (λ c. c .match .keys1)
     (λ c κs. tt)
-    (λ c. search needs)
+    (λ c. c .match .keys2)
     (λ c κs. tt)
-    (λ c. search needs)
+    (λ c. c .match .keys3)
     (λ c κs. tt)
     returns
     returns-2

@@ -1,5 +1,4 @@
 use Rattle.level_control.specs.Moves.{moveAnswered}
-use borrow.Author.Needs.{needs}
 use Rattle.level_control.proofs.state.LevelControlState.move_answered.Statement.{statement}
 use Rattle.level_control.proofs.state.LevelControlState.move_answered.Tie as tie
 
@@ -19,12 +18,12 @@ pub move-answered-spec : {M : Type 1} → statement M
 move-answered-spec =
     tie.close
     (tie.spec
-    (λ c. search needs)
+    (λ c. c .match .keys1)
     (λ c κs. tt)
-    (λ c. search needs)
+    (λ c. c .match .keys2)
     (λ c κs. tt)
     (λ c κs. tt)
-    (λ c. search needs)
+    (λ c. c .match .keys3)
     (λ c κs. tt)
     returns
     returns-2

@@ -1,5 +1,4 @@
 use Rattle.level_control.specs.Events.{run}
-use borrow.Author.Needs.{needs}
 use Rattle.level_control.proofs.state.LevelControlState.run.Statement.{statement}
 use Rattle.level_control.proofs.state.LevelControlState.run.Tie as tie
 
@@ -67,35 +66,35 @@ pub run-spec : {M : Type 1} → statement M
 run-spec =
     tie.close
     (tie.spec
-    (λ c. search needs)
+    (λ c. c .match .keys1)
     (λ c κs. tt)
-    (λ c. search needs)
+    (λ c. c .match .keys2)
     (λ c κs. tt)
-    (λ c. search needs)
+    (λ c. c .match .keys3)
     (λ c κs. tt)
-    (λ c. search needs)
+    (λ c. c .match .keys4)
     (λ c κs. tt)
-    (λ c. search needs)
+    (λ c. c .match .keys5)
     (λ c κs. tt)
-    (λ c. search needs)
+    (λ c. c .match .keys6)
     (λ c κs. tt)
-    (λ c. search needs)
+    (λ c. c .match .keys7)
     (λ c κs. tt)
-    (λ c. search needs)
+    (λ c. c .match .keys8)
     (λ c κs. tt)
-    (λ c. search needs)
+    (λ c. c .match .keys9)
     (λ c κs. tt)
-    (λ c. search needs)
+    (λ c. c .match .keys10)
     (λ c κs. tt)
-    (λ c. search needs)
+    (λ c. c .match .keys11)
     (λ c κs. tt)
-    (λ c. search needs)
+    (λ c. c .match .keys12)
     (λ c κs. tt)
-    (λ c. search needs)
+    (λ c. c .match .keys13)
     (λ c κs. tt)
-    (λ c. search needs)
+    (λ c. c .match .keys14)
     (λ c κs. tt)
-    (λ c. search needs)
+    (λ c. c .match .keys15)
     (λ c κs. tt)
     returns
     returns-2

@@ -1,5 +1,4 @@
 use Rattle.level_control.specs.Rest.{startUpAnswered}
-use borrow.Author.Needs.{needs}
 use Rattle.level_control.proofs.state.LevelControlState.start_up_answered.Statement.{
   statement,
 }
@@ -21,11 +20,11 @@ pub start-up-answered-spec : {M : Type 1} → statement M
 start-up-answered-spec =
     tie.close
     (tie.spec
-    (λ c. search needs)
+    (λ c. c .match .keys1)
     (λ c κs. tt)
-    (λ c. search needs)
+    (λ c. c .match .keys2)
     (λ c κs. tt)
-    (λ c. search needs)
+    (λ c. c .match .keys3)
     (λ c κs. tt)
     (λ c κs. tt)
     returns

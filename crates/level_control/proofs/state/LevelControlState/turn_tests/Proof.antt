@@ -1,5 +1,4 @@
 use Rattle.level_control.specs.Causes.{turnTests}
-use borrow.Author.Needs.{needs}
 use Rattle.level_control.proofs.state.LevelControlState.turn_tests.Statement.{statement}
 use Rattle.level_control.proofs.state.LevelControlState.turn_tests.Tie as tie
 
@@ -25,11 +24,11 @@ turn-tests-spec =
     (tie.spec
     (λ c κs. tt)
     (λ c κs. tt)
-    (λ c. search needs)
-    (λ c. search needs)
-    (λ c. search needs)
+    (λ c. c .match .keys1)
+    (λ c. c .match .keys2)
+    (λ c. c .match .keys3)
     (λ c κs. tt)
-    (λ c. search needs)
+    (λ c. c .match .keys4)
     returns
     returns-2
     returns-3

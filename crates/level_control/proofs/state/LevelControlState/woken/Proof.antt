@@ -1,5 +1,4 @@
 use Rattle.level_control.specs.Events.{woken}
-use borrow.Author.Needs.{needs}
 use Rattle.level_control.proofs.state.LevelControlState.woken.Statement.{statement}
 use Rattle.level_control.proofs.state.LevelControlState.woken.Tie as tie
 
@@ -27,16 +26,16 @@ pub woken-spec : {M : Type 1} → statement M
 woken-spec =
     tie.close
     (tie.spec
-    (λ c. search needs)
+    (λ c. c .match .keys1)
     (λ c κs. tt)
-    (λ c. search needs)
+    (λ c. c .match .keys2)
     (λ c κs. tt)
-    (λ c. search needs)
+    (λ c. c .match .keys3)
     (λ c κs. tt)
-    (λ c. search needs)
+    (λ c. c .match .keys4)
     (λ c κs. tt)
     (λ c κs. tt)
-    (λ c. search needs)
+    (λ c. c .match .keys5)
     (λ c κs. tt)
     returns
     returns-2
