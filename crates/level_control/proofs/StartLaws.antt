@@ -92,7 +92,7 @@ pub target-is : (s : LevelControlState) (level : ℕ) → targetLevel level (s .
 unfolding targetLevel
 target-is s level = refl
 
-given-is : (x : Time) (other : Tenths) → timeOr x other .0 ≡ givenOr x (other .0)
+pub given-is : (x : Time) (other : Tenths) → timeOr x other .0 ≡ givenOr x (other .0)
 unfolding timeOr
 given-is (time.Known t) other = refl
 given-is time.Missing other = refl
@@ -126,7 +126,7 @@ step-is s c r = by (r .mode)
     by Up = up c (r .«step_size») (s .settings .«min_level») (s .settings .«max_level»)
     by Down = down c (r .«step_size») (s .settings .«min_level») (s .settings .«max_level»)
 
-takes : (given : Time) (actual size : ℕ) → isOverflow (stepTime given actual size) ≡ false
+pub takes : (given : Time) (actual size : ℕ) → isOverflow (stepTime given actual size) ≡ false
     → (x : Tenths) × (stepTime given actual size ≡ Takes x) × (x .0 ≡ stepIn given actual size)
 unfolding stepTime scaledFloor
 takes time.Missing actual size h = (tenths 0, refl, refl)

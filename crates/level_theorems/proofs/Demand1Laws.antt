@@ -35,23 +35,27 @@ use Rattle.level_theorems.specs.Demand1.{LevelFrom, AttributesFrom, unch
 use Rattle.level_control.specs.declared.state.LevelControlState.{LevelControlState}
 use Rattle.level_control.proofs.AnswerLaws.{unpacked}
 use Rattle.level_control.proofs.EventLaws.{stoppedIn, event-refused, event-stopped, event-runs, event-number, turn-passes}
-use Rattle.level_theorems.proofs.LevelLaws.{run-comes}
+use Rattle.event_theorems.specs.Brings.{brings}
+use Rattle.event_theorems.specs.Fields.{nextState}
+use Rattle.event_theorems.proofs.RunLaws.{gives}
+use Rattle.event_theorems.proofs.ByFieldHolds.{runs-by}
+use Rattle.level_theorems.proofs.LevelLaws.{level-from, attributes-from}
 use Rattle.level_theorems.proofs.PatternLaws.{at-most-seven-of}
 use Rattle.level_theorems.proofs.ShapeLaws.{orders-shape}
-use Rattle.level_theorems.proofs.AnswerOrderLaws.{run-ordered}
-use Rattle.level_theorems.proofs.WaitLaws.{waitsIn, Waited, no-wait, waits, run-waited, no-entry, one-entry, found}
+use Rattle.level_theorems.proofs.OrderLaws.{letters-ordered}
+use Rattle.level_theorems.proofs.WaitLaws.{waitsIn, Waited, no-wait, waits, gives-waited, no-entry, one-entry, found}
 
--- an event is refused, or stopped by the options, or runs
+-- an event is refused, or stopped by the options, or gives what the pages of event_theorems say
 three-ways : (s : LevelControlState) (e : Event) (Q : Outcome → Type 0)
     → ((numberOf s e ≡ 0 → ⊥) → Q (refused s (numberOf s e)))
     → (numberOf s e ≡ 0 → Q (done (accept s (e .at)) []))
-    → (numberOf s e ≡ 0 → Q (run (accept s (e .at)) (e .kind) (e .at) (e .«on_off»)))
+    → Q (gives s (brings s (e .kind)) (e .at) (e .«on_off»))
     → Q (eventOf s e)
 three-ways s e Q kept stopped runs = go (eqb (numberOf s e) 0) refl (stoppedIn s e) refl
   where
     go : (b : Bool) → eqb (numberOf s e) 0 ≡ b → (c : Bool) → stoppedIn s e ≡ c → Q (eventOf s e)
     go true p true q = let z = eqb-true (numberOf s e) 0 p in subst Q (sym (event-stopped s e z q)) (stopped z)
-    go true p false q = let z = eqb-true (numberOf s e) 0 p in subst Q (sym (event-runs s e z q)) (runs z)
+    go true p false q = let z = eqb-true (numberOf s e) 0 p in subst Q (sym (runs-by s e z q)) runs
     go false p c q = let z = eqb-false (numberOf s e) 0 p in subst Q (sym (event-refused s e z)) (kept z)
 
 refused-keeps : (s : LevelControlState) (e : Event) → (eventOf s e .number ≡ 0 → ⊥) → (eventOf s e .state ≡ s) × (eventOf s e .actions ≡ [])
@@ -95,12 +99,8 @@ in-time s e z =
 
 -- an accepted event's time is the last accepted
 accepted-time : (s : LevelControlState) (e : Event) → numberOf s e ≡ 0 → eventOf s e .state .«last_accepted» ≡ e .at
-unfolding accept
-accepted-time s e z =
-    three-ways s e (λ (o : Outcome). o .state .«last_accepted» ≡ e .at)
-    (λ h. absurd (h z))
-    (λ h. refl)
-    (λ h. run-comes (accept s (e .at)) (e .kind) (e .at) (e .«on_off») .time)
+unfolding accept nextState
+accepted-time s e z = three-ways s e (λ (o : Outcome). o .state .«last_accepted» ≡ e .at) (λ h. absurd (h z)) (λ h. refl) refl
 
 time-never-falls : (s : LevelControlState) (e : Event) → s .«last_accepted» .0 ≤ eventOf s e .state .«last_accepted» .0
 time-never-falls s e = go (eqb (numberOf s e) 0) refl
@@ -109,68 +109,30 @@ time-never-falls s e = go (eqb (numberOf s e) 0) refl
     go true p = let z = eqb-true (numberOf s e) 0 p in rw (accepted-time s e z) (in-time s e z)
     go false p = rw (event-refused s e (eqb-false (numberOf s e) 0 p)) (omega arith)
 
--- to be accepted changes nothing that a level may come from
-before-accepted : (s : LevelControlState) (at : Micros) (k : EventKind) (l : Level) → LevelFrom (accept s at) k l → LevelFrom s k l
-unfolding accept
-before-accepted s at k l claim.kept = claim.kept
-before-accepted s at k l (claim.answered e) = claim.answered e
-before-accepted s at k l (claim.missing e) = claim.missing e
-before-accepted s at k l (claim.updated e) = claim.updated e
-before-accepted s at k l (claim.restored runs last after none e) = claim.restored runs last after none e
-
 level-comes-from : (s : LevelControlState) (e : Event) → LevelFrom s (e .kind) (eventOf s e .state .«current_level»)
-unfolding accept
+unfolding accept nextState
 level-comes-from s e =
-    three-ways s e (λ (o : Outcome). LevelFrom s (e .kind) (o .state .«current_level»))
-    (λ h. claim.kept)
-    (λ h. claim.kept)
-    (λ h. before-accepted s (e .at) (e .kind) _ (run-comes (accept s (e .at)) (e .kind) (e .at) (e .«on_off») .level))
+    three-ways s e (λ (o : Outcome). LevelFrom s (e .kind) (o .state .«current_level»)) (λ h. claim.kept) (λ h. claim.kept) (level-from s (e .kind))
 
 settings-stay : (s : LevelControlState) (e : Event) → eventOf s e .state .settings ≡ s .settings
-unfolding accept
-settings-stay s e =
-    three-ways s e (λ (o : Outcome). o .state .settings ≡ s .settings)
-    (λ h. refl)
-    (λ h. refl)
-    (λ h. run-comes (accept s (e .at)) (e .kind) (e .at) (e .«on_off») .settings)
-
-attributes-accepted : (s : LevelControlState) (at : Micros) (k : EventKind) (a : Attributes) → AttributesFrom (accept s at) k a → AttributesFrom s k a
-unfolding accept
-attributes-accepted s at k a unchanged = unchanged
-attributes-accepted s at k a (set-on-level e) = set-on-level e
-attributes-accepted s at k a (set-default-move-rate e) = set-default-move-rate e
-attributes-accepted s at k a (set-start-up e) = set-start-up e
-attributes-accepted s at k a (put-back e) = put-back e
+unfolding accept nextState
+settings-stay s e = three-ways s e (λ (o : Outcome). o .state .settings ≡ s .settings) (λ h. refl) (λ h. refl) refl
 
 attributes-come-from : (s : LevelControlState) (e : Event) → AttributesFrom s (e .kind) (eventOf s e .state .attributes)
-unfolding accept
+unfolding accept nextState
 attributes-come-from s e =
-    three-ways s e (λ (o : Outcome). AttributesFrom s (e .kind) (o .state .attributes))
-    (λ h. unchanged)
-    (λ h. unchanged)
-    (λ h. attributes-accepted s (e .at) (e .kind) _ (run-comes (accept s (e .at)) (e .kind) (e .at) (e .«on_off») .attributes))
+    three-ways s e (λ (o : Outcome). AttributesFrom s (e .kind) (o .state .attributes)) (λ h. unchanged) (λ h. unchanged) (attributes-from s (e .kind))
 
 action-order : (s : LevelControlState) (e : Event) → OneOf (orders (s .task) (e .kind)) (kindsOf (eventOf s e .actions))
-unfolding accept
 action-order s e =
     three-ways s e (λ (o : Outcome). OneOf (orders (s .task) (e .kind)) (kindsOf (o .actions)))
     (λ h. orders-shape (s .task) (e .kind) .silent)
     (λ h. orders-shape (s .task) (e .kind) .silent)
-    (λ h. run-ordered (accept s (e .at)) (e .kind) (e .at) (e .«on_off») .kinds)
-
--- to be accepted changes no task
-
-waited-accepted : (s : LevelControlState) (at : Micros) (k : EventKind) (o : Outcome) → Waited (accept s at) k o → Waited s k o
-unfolding accept
-waited-accepted s at k o (no-wait h) = no-wait h
-waited-accepted s at k o (waits v since until e asked order waiting found) = waits v since until e asked order waiting found
+    (letters-ordered s (e .kind) (e .at) (e .«on_off») .kinds)
 
 event-waited : (s : LevelControlState) (e : Event) → Waited s (e .kind) (eventOf s e)
 event-waited s e =
-    three-ways s e (λ (o : Outcome). Waited s (e .kind) o)
-    (λ h. no-wait refl)
-    (λ h. no-wait refl)
-    (λ h. waited-accepted s (e .at) (e .kind) _ (run-waited (accept s (e .at)) (e .kind) (e .at) (e .«on_off»)))
+    three-ways s e (λ (o : Outcome). Waited s (e .kind) o) (λ h. no-wait refl) (λ h. no-wait refl) (gives-waited s (e .kind) (e .at) (e .«on_off»))
 
 wait-after-request : (s : LevelControlState) (e : Event) (u : ℕ) (earlier others : List Action)
     → eventOf s e .actions ≡ earlier ++ (action W u ∷ others) → WaitAfter s e u

@@ -2,7 +2,6 @@ pub mod LevelLaws
 pub mod PatternLaws
 pub mod ShapeLaws
 pub mod OrderLaws
-pub mod AnswerOrderLaws
 pub mod WaitLaws
 pub mod Demand1Laws
 pub mod PathTheorem

@@ -33,7 +33,7 @@ use Rattle.level_theorems.specs.FadeTheorems.{ComesToRest}
 use Rattle.level_control.specs.declared.state.LevelControlState.{LevelControlState}
 use Rattle.level_control.proofs.FadeInvariant.{Inv, Kept, wake-is, keep}
 use Rattle.level_control.proofs.EveryFade.{accepted-zero, kept, every-fade}
-use Rattle.level_theorems.proofs.Acceptance.{answers-accepted, wakes-accepted}
+use Rattle.level_theorems.proofs.Acceptance.{answers-accepted, fade-wakes-accepted}
 
 -- One event.
 
@@ -95,7 +95,7 @@ module _ (c t T : ℕ) (pos : 1 ≤ T) (small : T ≤ 65535) where
       let w : Event = event at (p .on) kind.Wake in
       let others : Bool = inTime (answered (next r w) p ps) in
       let soon : at .0 ≤ latest .0 = leb-true (at .0) (latest .0) (and-first (leb (at .0) (latest .0)) others time) in
-      let ok : accepted (r .state) w ≡ true = wakes-accepted (r .state) f until at (p .on) x e (omega arith) (omega arith) soon in
+      let ok : accepted (r .state) w ≡ true = fade-wakes-accepted (r .state) f until at (p .on) x e (omega arith) (omega arith) soon in
       let on : (not (accepted (r .state) w) || isOnward (w .kind)) ≡ true = or-second (not (accepted (r .state) w)) true refl in
       let isOpen : taskOpen (next r w .state .task) ≡ true =
       ap (λ (s : LevelControlState). taskOpen (s .task)) (next-state r w) ∙ wake-opens (r .state) f at (p .on) x (accepted-zero (r .state) w ok) in

@@ -1,14 +1,17 @@
 -- A W is given only with an answer to a request, and is not before that request. Assumes nothing.
-use Prim.Native.Nat.{ℕ, _≤_}
-use mathlib.Core.Bool.{Bool, true, false, cond, not, _&&_, false≢true}
-use mathlib.Core.Path.{_≡_, refl, ap, _∙_}
+use Prim.Native.Nat.{ℕ, _≤_, _-_, _+_, _*_}
+use mathlib.Core.Bool.{Bool, true, false, cond, not}
+use mathlib.Core.Path.{_≡_, refl, sym, ap, subst, _∙_}
 use mathlib.Core.List.{List, [], _∷_, _++_}
 use native.Mathlib.Omega.{arith}
-use Rattle.units.specs.Units.{millisToMicros, later, atMost, elapsed}
+use lib.Dec.{eqb, leb, ltb}
+use Rattle.units.specs.Units.{micros, tenths}
 use Rattle.units.specs.declared.Micros.{Micros}
-use Rattle.transitions.specs.Events.{action, act}
-use Rattle.transitions.specs.Fade.{waitOrAsk}
-use Rattle.transitions.specs.Tasks.{fadeLast, fadeWaiting}
+use Rattle.transitions.specs.Events.{action, act, actIf, actCoupled}
+use Rattle.transitions.specs.Fade.{nextLevel}
+use Rattle.transitions.specs.Matter.{changed}
+use Rattle.transitions.specs.declared.coupling.Coupling.{Coupling}
+use Rattle.transitions.specs.declared.coupling.Coupling.the-variants.{Sent, NotSent}
 use Rattle.transitions.specs.declared.events.Action.{Action}
 use Rattle.transitions.specs.declared.events.ActionKind.{ActionKind}
 use Rattle.transitions.specs.declared.events.ActionKind.the-variants.{D, P, S, C, L, R, W, E, K, X}
@@ -16,30 +19,30 @@ use Rattle.transitions.specs.declared.events.DeviceAnswer.{DeviceAnswer}
 use Rattle.transitions.specs.declared.events.DeviceAnswer.the-variants as device
 use Rattle.transitions.specs.declared.events.EventKind.{EventKind}
 use Rattle.transitions.specs.declared.events.EventKind.the-variants as kind
-use Rattle.transitions.specs.declared.fade.Next.the-variants.{Wait, Ask}
 use Rattle.transitions.specs.declared.tasks.Fade.{Fade}
 use Rattle.transitions.specs.declared.tasks.Move.{Move}
+use Rattle.transitions.specs.declared.tasks.MoveCourse.{MoveCourse}
 use Rattle.transitions.specs.declared.tasks.OnReaction.{OnReaction}
 use Rattle.transitions.specs.declared.tasks.Phase.{Phase}
 use Rattle.transitions.specs.declared.tasks.Phase.the-variants.{Asked, Waiting}
 use Rattle.transitions.specs.declared.tasks.Task.{Task}
 use Rattle.transitions.specs.declared.tasks.Task.the-variants as task
-use Rattle.transitions.specs.declared.types.Level.the-variants.{Known}
-use Rattle.transitions.proofs.Booleans.{and-first, and-second, and-both}
-use Rattle.level_control.specs.State.{withTask}
-use Rattle.level_control.specs.Answer.{Outcome, reportsOf}
-use Rattle.level_control.specs.Reports.{toldLevel, coupledBy}
-use Rattle.level_control.specs.Fades.{fadeThen, fadeGoesOn, fadeTold, moveToLevelTransition, fadeAnswered}
-use Rattle.level_control.specs.Moves.{moveNext, moveThen, moveEnds, moveTransition, moveAnswered}
-use Rattle.level_control.specs.Events.{fadeAnsweredIn, moveAnsweredIn, answeredIn, answered, run}
-use Rattle.level_theorems.specs.Orders.{kindsOf, LeavesOut, end, takes, leaves, OneOf, this, orders, startUpOrders, onOrders, wakeOrders}
-use Rattle.level_theorems.specs.Orders as patterns
-use Rattle.level_theorems.specs.Demand1.{InPhase}
-use Rattle.level_control.specs.declared.answer.Reports.{Reports}
+use Rattle.transitions.specs.declared.types.Level.{Level}
+use Rattle.transitions.specs.declared.types.Level.the-variants.{Known, Missing}
+use Rattle.transitions.specs.declared.types.Mode.{Mode}
+use Rattle.transitions.specs.declared.types.Mode.the-variants.{Up, Down}
+use Rattle.level_control.specs.Answer.{Outcome}
+use Rattle.level_control.specs.Starts.{givenOr, target}
 use Rattle.level_control.specs.declared.state.LevelControlState.{LevelControlState}
-use Rattle.level_theorems.proofs.PatternLaws.{Fits, both, one, one-coupled, reports-fit}
-use Rattle.level_theorems.proofs.OrderLaws.{Ordered, told-fits}
-use Rattle.level_theorems.proofs.AnswerOrderLaws.{ended-fits, move-asks, fade-ordered, move-ordered, on-ordered, start-up-ordered, run-ordered}
+use Rattle.event_theorems.specs.Brings as bring
+use Rattle.event_theorems.specs.Brings.{Brings, Command, Answers, Runs, brings, isEnd, sceneTarget, stepTarget, storedBack, tells, turned}
+use Rattle.event_theorems.specs.Course as course
+use Rattle.event_theorems.specs.Course.{Course, courseLetter, taskOn, towards}
+use Rattle.event_theorems.specs.Fields.{levelTold, nextState}
+use Rattle.event_theorems.specs.Letters.{backLetters, changes, couplesFirst, couplesLast, letters, notices, reportsLevel, reportsTime, settingLetter}
+use Rattle.event_theorems.proofs.AnswerLaws.{at-task}
+use Rattle.event_theorems.proofs.RunLaws.{gives}
+use Rattle.level_theorems.specs.Demand1.{InPhase}
 
 -- the times of the waits in a list of actions
 
@@ -68,34 +71,6 @@ waits-append (a ∷ l) r = by (isWait (a .kind)) (waits-append l r)
     by true h = ap (λ (x : List ℕ). a .value ∷ x) h
     by false h = h
 
--- Patterns without W have none.
-
-abbrev free : List ActionKind → Bool
-free [] = true
-free (k ∷ l) = not (isWait k) && free l
-
-abbrev allFree : List (List ActionKind) → Bool
-allFree [] = true
-allFree (p ∷ ps) = free p && allFree ps
-
-free-kinds : {p l : List ActionKind} → LeavesOut p l → free p ≡ true → free l ≡ true
-free-kinds end e = e
-free-kinds (takes {k} {pattern} {kinds} h) e =
-    and-both (not (isWait k)) (free kinds) (and-first (not (isWait k)) (free pattern) e) (free-kinds h (and-second (not (isWait k)) (free pattern) e))
-free-kinds (leaves {k} {pattern} {kinds} h) e = free-kinds h (and-second (not (isWait k)) (free pattern) e)
-
-free-one-of : (ps : List (List ActionKind)) (k : List ActionKind) → OneOf ps k → allFree ps ≡ true → free k ≡ true
-free-one-of (p ∷ ps) k (this h) e = free-kinds h (and-first (free p) (allFree ps) e)
-free-one-of (p ∷ ps) k (patterns.later h) e = free-one-of ps k h (and-second (free p) (allFree ps) e)
-
-free-waits : (l : List Action) → free (kindsOf l) ≡ true → waitsIn l ≡ []
-free-waits [] e = refl
-free-waits (a ∷ l) e = by (isWait (a .kind)) e (free-waits l)
-  where
-    by : (b : Bool) → (not b && free (kindsOf l)) ≡ true → (free (kindsOf l) ≡ true → waitsIn l ≡ []) → cond b (a .value ∷ waitsIn l) (waitsIn l) ≡ []
-    by true e h = absurd (false≢true e)
-    by false e h = h e
-
 -- what an event with no W, or with one, gives
 pub data Waited (s : LevelControlState) (k : EventKind) (o : Outcome) : Type 0 where
   no-wait : waitsIn (o .actions) ≡ [] → Waited s k o
@@ -103,128 +78,165 @@ pub data Waited (s : LevelControlState) (k : EventKind) (o : Outcome) : Type 0 w
       → (since .0 ≤ 18446744073709551615 → since .0 ≤ until .0) → InPhase (o .state .task) (Waiting until)
       → waitsIn (o .actions) ≡ until .0 ∷ [] → Waited s k o
 
-ordered-free : {s : LevelControlState} {k : EventKind} {ps : List (List ActionKind)} {o : Outcome} → Ordered ps o → allFree ps ≡ true → Waited s k o
-ordered-free {ps} {o} h e = no-wait (free-waits (o .actions) (free-one-of ps (kindsOf (o .actions)) (h .kinds) e))
+-- Of an event's letters none but its course's is a W.
 
-waited-cond : {s : LevelControlState} {k : EventKind} (b : Bool) (x y : Outcome) → Waited s k x → Waited s k y → Waited s k (cond b x y)
-waited-cond true x y p q = p
-waited-cond false x y p q = q
+no-more : (l r : List Action) → waitsIn l ≡ [] → waitsIn (l ++ r) ≡ waitsIn r
+no-more l r e = waits-append l r ∙ ap (λ (x : List ℕ). x ++ waitsIn r) e
 
-fits-free : (p : List ActionKind) (l : List Action) → Fits p l → free p ≡ true → waitsIn l ≡ []
-fits-free p l h e = free-waits l (free-kinds (h .kinds) e)
+if-free : (b : Bool) (k : ActionKind) → isWait k ≡ false → waitsIn (actIf b k) ≡ []
+if-free true k e = rw e refl
+if-free false k e = refl
 
--- a task that is a fade, or a move, in a phase
+coupled-free : (c : Coupling) → waitsIn (actCoupled c) ≡ []
+coupled-free (Sent wanted) = refl
+coupled-free NotSent = refl
 
-is-fade : (t : Task) (f : Fade) (p : Phase) → t ≡ task.Fade f → f .phase ≡ p → InPhase t p
-is-fade t f p e h = rw e h
+back-free : (l told : Level) → waitsIn (backLetters l told) ≡ []
+back-free (Known before) told = let b = changed told (Known before) in no-more (actIf b P) (act L 0) (if-free b P refl)
+back-free Missing told = refl
 
-is-move : (t : Task) (m : Move) (p : Phase) → t ≡ task.Move m → m .phase ≡ p → InPhase t p
-is-move t m p e h = rw e h
+setting-free : (b : Brings) → waitsIn (settingLetter b) ≡ []
+setting-free (Runs c) = refl
+setting-free bring.Stops = refl
+setting-free (Answers a) = refl
+setting-free (bring.Updates level) = refl
+setting-free (bring.Sets a) = refl
+setting-free bring.Resets = refl
 
-reports-free : (r : Reports) (u : ℕ) → waitsIn (reportsOf r ++ act W u) ≡ u ∷ []
-reports-free r u = waits-append (reportsOf r) (act W u) ∙ rw (fits-free _ (reportsOf r) (reports-fit r) refl) refl
+letters-waits : (s : LevelControlState) (b : Brings) (at : Micros) (on : Bool) → waitsIn (letters s b at on) ≡ waitsIn (courseLetter (course.course s b at))
+unfolding letters
+letters-waits s b at on =
+    let p = changes (tells s b) (s .«current_level») in
+    let told = levelTold (tells s b) (s .«current_level») in
+    no-more (settingLetter b) _ (setting-free b)
+    ∙ no-more (actIf p P) _ (if-free p P refl)
+    ∙ no-more (actIf (notices s b) S) _ (if-free (notices s b) S refl)
+    ∙ no-more (actCoupled (couplesFirst s b on)) _ (coupled-free (couplesFirst s b on))
+    ∙ no-more (actIf (reportsLevel s b at) L) _ (if-free (reportsLevel s b at) L refl)
+    ∙ no-more (actIf (reportsTime s b) R) _ (if-free (reportsTime s b) R refl)
+    ∙ no-more (backLetters (storedBack s b) told) _ (back-free (storedBack s b) told)
+    ∙ no-more (actCoupled (couplesLast s b on at)) _ (coupled-free (couplesLast s b on at))
 
--- a fade or a move that goes on
+-- A course waits only after an answer with a level.
 
-fade-then : (s : LevelControlState) (f : Fade) (since at period : Micros) (on : Bool) (v : ℕ) → s .task ≡ task.Fade f → f .phase ≡ Asked since
-    → Waited s (kind.Answer (device.Level v)) (fadeThen (waitOrAsk since at period) (fadeTold s f at on v) f at)
-unfolding waitOrAsk withTask fadeWaiting
-fade-then s f since at period on v e q = by (atMost (elapsed since at) period)
+data CourseWaits (s : LevelControlState) (k : EventKind) : Course → Type 0 where
+  calm : (c : Course) → waitsIn (courseLetter c) ≡ [] → CourseWaits s k c
+  waiting : (v : ℕ) (since : Micros) (u : ℕ) (t : Task) → k ≡ kind.Answer (device.Level v) → InPhase (s .task) (Asked since)
+      → (since .0 ≤ 18446744073709551615 → since .0 ≤ u) → InPhase t (Waiting (micros u)) → CourseWaits s k (course.Waits u t)
+
+calm-cond : (b : Bool) (x y : Course) → waitsIn (courseLetter x) ≡ [] → waitsIn (courseLetter y) ≡ [] → waitsIn (courseLetter (cond b x y)) ≡ []
+calm-cond true x y p q = p
+calm-cond false x y p q = q
+
+step-calm : (m : MoveCourse) (mode : Mode) (l : Level) (at : Micros) → waitsIn (courseLetter (course.step m mode l at)) ≡ []
+step-calm m Up (Known c) at = calm-cond (ltb c 255) _ _ refl refl
+step-calm m Down (Known c) at = calm-cond (ltb 0 c) _ _ refl refl
+step-calm m Up Missing at = refl
+step-calm m Down Missing at = refl
+
+towards-calm : (l : Level) (t T : ℕ) (withOnOff scene restores : Bool) (at : Micros) → waitsIn (courseLetter (towards l t T withOnOff scene restores at)) ≡ []
+towards-calm (Known c) t T withOnOff scene restores at = calm-cond (eqb c t) _ _ refl refl
+towards-calm Missing t T withOnOff scene restores at = refl
+
+start-up-calm : (l c : Level) (s : LevelControlState) → waitsIn (courseLetter (course.startUp l c s)) ≡ []
+start-up-calm (Known level) c s = refl
+start-up-calm Missing (Known level) s = refl
+start-up-calm Missing Missing s = refl
+
+wake-calm : (x : Task) (s : LevelControlState) (at : Micros) → waitsIn (courseLetter (course.wake x s at)) ≡ []
+wake-calm task.Rest s at = refl
+wake-calm task.StartUp s at = refl
+wake-calm (task.Fade f) s at = refl
+wake-calm (task.Move m) s at = step-calm (m .course) (m .course .mode) (s .«current_level») at
+wake-calm (task.OnReaction r) s at = refl
+
+command-calm : (s : LevelControlState) (c : Command) (at : Micros) → waitsIn (courseLetter (course.commandCourse s c at)) ≡ []
+command-calm s bring.StartUp at = start-up-calm (s .attributes .«start_up_current_level») (s .«current_level») s
+command-calm s (bring.Target t T withOnOff scene restores) at = towards-calm (s .«current_level») t T withOnOff scene restores at
+command-calm s bring.NoTarget at = refl
+command-calm s (bring.Move r) at = calm-cond (course.atLimit (r .mode) (s .«current_level») (s .settings)) _ _ refl (step-calm _ (r .mode) (s .«current_level») at)
+command-calm s bring.On at = refl
+command-calm s bring.Wake at = wake-calm (s .task) s at
+
+on-calm : (l before : Level) (v : ℕ) (s : LevelControlState) (at : Micros) → waitsIn (courseLetter (course.onTowards l before v s at)) ≡ []
+on-calm (Known level) before v s at = towards-calm (Known v) _ _ true false false at
+on-calm Missing (Known level) v s at = towards-calm (Known v) _ _ true false false at
+on-calm Missing Missing v s at = refl
+
+module _ (s : LevelControlState) (at : Micros) where
+  fade-waits : (f : Fade) (v : ℕ) (b : Bool) (p : Phase) → f .phase ≡ p
+      → CourseWaits (at-task s (task.Fade f)) (kind.Answer (device.Level v)) (cond b course.AtRest (course.fadeOn f p at))
+  fade-waits f v true p e = calm course.AtRest refl
+  fade-waits f v false (Asked since) e = by (leb (at .0 - since .0) (f .period .0 * 1000))
+    where
+      u : ℕ
+      u = course.until since (f .period .0 * 1000)
+
+      by : (w : Bool)
+          → CourseWaits (at-task s (task.Fade f)) (kind.Answer (device.Level v))
+          (cond w (course.Waits u (task.Fade (course.fadeAt f (f .remaining .0 - f .period .0) (f .counter) (Waiting (micros u)))))
+          (course.fadeAsks f (f .remaining .0 - f .period .0) at))
+      by true = waiting v since u _ refl e (λ h. omega arith) refl
+      by false = calm (course.fadeAsks f (f .remaining .0 - f .period .0) at) refl
+  fade-waits f v false (Waiting until) e = calm course.AsItWas refl
+
+  move-waits : (m : Move) (v : ℕ) (b : Bool) (p : Phase) → m .phase ≡ p
+      → CourseWaits (at-task s (task.Move m)) (kind.Answer (device.Level v)) (cond b course.AtRest (course.moveOn m p (Known v) at))
+  move-waits m v true p e = calm course.AtRest refl
+  move-waits m v false (Asked since) e = by (leb (at .0 - since .0) (m .course .period .0))
+    where
+      u : ℕ
+      u = course.until since (m .course .period .0)
+
+      by : (w : Bool)
+          → CourseWaits (at-task s (task.Move m)) (kind.Answer (device.Level v))
+          (cond w (course.Waits u (task.Move (record { course = m .course; asked = m .asked; phase = Waiting (micros u) })))
+          (course.step (m .course) (m .course .mode) (Known v) at))
+      by true = waiting v since u _ refl e (λ h. omega arith) refl
+      by false = calm _ (step-calm (m .course) (m .course .mode) (Known v) at)
+  move-waits m v false (Waiting until) e = calm course.AsItWas refl
+
+  answer-waits : (x : Task) (a : DeviceAnswer) → CourseWaits (at-task s x) (kind.Answer a) (course.answerCourse x (at-task s x) a at)
+  answer-waits task.Rest a = calm course.AsItWas refl
+  answer-waits task.StartUp a = calm course.AtRest refl
+  answer-waits (task.Fade f) (device.Level v) = fade-waits f v (eqb (f .counter) (f .target)) (f .phase) refl
+  answer-waits (task.Fade f) device.Missing = calm (course.Fails 15) refl
+  answer-waits (task.Fade f) device.Failed = calm (course.Fails 15) refl
+  answer-waits (task.Move m) (device.Level v) = move-waits m v (isEnd (m .asked) (s .settings)) (m .phase) refl
+  answer-waits (task.Move m) device.Missing = calm (course.Fails 15) refl
+  answer-waits (task.Move m) device.Failed = calm (course.Fails 15) refl
+  answer-waits (task.OnReaction r) (device.Level v) = calm _ (on-calm (s .attributes .«on_level») (r .before) v (at-task s (task.OnReaction r)) at)
+  answer-waits (task.OnReaction r) device.Missing = calm (course.Fails 15) refl
+  answer-waits (task.OnReaction r) device.Failed = calm (course.Fails 15) refl
+
+  course-waits : (k : EventKind) → CourseWaits s k (course.course s (brings s k) at)
+  unfolding course.course
+  course-waits kind.StartUp = calm _ (command-calm s bring.StartUp at)
+  course-waits (kind.MoveToLevel r) = calm _ (towards-calm (s .«current_level») (target s (r .level)) (givenOr (r .«transition_time») 0) (r .«with_on_off») false false at)
+  course-waits (kind.Move r) = calm _ (command-calm s (bring.Move r) at)
+  course-waits (kind.Step r) = calm _ (command-calm s (stepTarget (s .«current_level») s r) at)
+  course-waits (kind.Stop r) = calm course.AtRest refl
+  course-waits (kind.Answer a) = answer-waits (s .task) a
+  course-waits kind.Wake = calm _ (command-calm s bring.Wake at)
+  course-waits (kind.OnOffChanged value) = calm _ (command-calm s (turned value s) at)
+  course-waits (kind.Scene r) = calm _ (command-calm s (sceneTarget (r .level) s (r .«transition_time» .0)) at)
+  course-waits (kind.DeviceUpdate level) = calm course.AtRest refl
+  course-waits kind.DeviceStop = calm course.AtRest refl
+  course-waits (kind.SetOnLevel level) = calm course.AsItWas refl
+  course-waits (kind.SetDefaultMoveRate rate) = calm course.AsItWas refl
+  course-waits (kind.SetStartUpCurrentLevel level) = calm course.AsItWas refl
+  course-waits kind.FactoryReset = calm course.AtRest refl
+
+pub gives-waited : (s : LevelControlState) (k : EventKind) (at : Micros) (on : Bool) → Waited s k (gives s (brings s k) at on)
+unfolding nextState
+gives-waited s k at on = by (course.course s (brings s k) at) refl (course-waits s at k)
   where
-    by : (b : Bool) → Waited s (kind.Answer (device.Level v)) (fadeThen (cond b (Wait (later since period)) Ask) (fadeTold s f at on v) f at)
-    by true =
-        waits v since (later since period) refl (is-fade (s .task) f (Asked since) e q) (λ h. omega arith) refl
-        (reports-free (fadeTold s f at on v .reports) (later since period .0))
-    by false = no-wait (fits-free (P ∷ S ∷ C ∷ L ∷ R ∷ D ∷ []) _ (both _ _ (reports-fit (fadeTold s f at on v .reports)) (one D _)) refl)
-
-fade-waited : (s : LevelControlState) (f : Fade) (since at : Micros) (on : Bool) (a : DeviceAnswer) → s .task ≡ task.Fade f → f .phase ≡ Asked since
-    → Waited s (kind.Answer a) (fadeAnswered s f since at on a)
-unfolding fadeAnswered moveToLevelTransition fadeGoesOn
-fade-waited s f since at on (device.Level v) e q =
-    waited-cond (fadeLast f) _ _
-    (no-wait (fits-free _ _ (ended-fits s f at on v (f .after)) refl))
-    (fade-then s f since at (millisToMicros (f .period)) on v e q)
-fade-waited s f since at on device.Missing e q = ordered-free (fade-ordered s f since at on device.Missing) refl
-fade-waited s f since at on device.Failed e q = ordered-free (fade-ordered s f since at on device.Failed) refl
-
-move-then : (s : LevelControlState) (m : Move) (since at period : Micros) (on : Bool) (v : ℕ) (last : Bool) → s .task ≡ task.Move m → m .phase ≡ Asked since
-    → Waited s (kind.Answer (device.Level v)) (moveNext (waitOrAsk since at period) (toldLevel s (Known v) at last) m at on)
-unfolding waitOrAsk withTask
-move-then s m since at period on v last e q = by (atMost (elapsed since at) period)
-  where
-    by : (b : Bool) → Waited s (kind.Answer (device.Level v)) (moveNext (cond b (Wait (later since period)) Ask) (toldLevel s (Known v) at last) m at on)
-    by true =
-        waits v since (later since period) refl (is-move (s .task) m (Asked since) e q) (λ h. omega arith) refl
-        (reports-free (toldLevel s (Known v) at last .reports) (later since period .0))
-    by false = ordered-free (move-asks s at last v (m .course) on) refl
-
-move-waited : (s : LevelControlState) (m : Move) (since at : Micros) (on : Bool) (a : DeviceAnswer) → s .task ≡ task.Move m → m .phase ≡ Asked since
-    → Waited s (kind.Answer a) (moveAnswered s m since at on a)
-unfolding moveAnswered moveTransition moveThen
-move-waited s m since at on (device.Level v) e q =
-    waited-cond (moveEnds s (m .asked)) _ _
-    (no-wait
-    (fits-free _ _
-    (both _ _ (told-fits s (Known v) at (moveEnds s (m .asked))) (one-coupled (coupledBy s v (m .course .«with_on_off») on)))
-    refl))
-    (move-then s m since at (m .course .period) on v (moveEnds s (m .asked)) e q)
-move-waited s m since at on device.Missing e q = ordered-free (move-ordered s m since at on device.Missing) refl
-move-waited s m since at on device.Failed e q = ordered-free (move-ordered s m since at on device.Failed) refl
-
-on-free : (a : DeviceAnswer) → allFree (onOrders a) ≡ true
-on-free (device.Level v) = refl
-on-free device.Missing = refl
-on-free device.Failed = refl
-
-start-up-free : (a : DeviceAnswer) → allFree (startUpOrders a) ≡ true
-start-up-free (device.Level v) = refl
-start-up-free device.Missing = refl
-start-up-free device.Failed = refl
-
-wake-free : (t : Task) → allFree (wakeOrders t) ≡ true
-wake-free task.Rest = refl
-wake-free task.StartUp = refl
-wake-free (task.Fade f) = refl
-wake-free (task.Move m) = refl
-wake-free (task.OnReaction r) = refl
-
-answered-waited : (s : LevelControlState) (a : DeviceAnswer) (at : Micros) (on : Bool) → Waited s (kind.Answer a) (answered s a at on)
-unfolding answered
-answered-waited s a at on = by (s .task) refl
-  where
-    fade : (p : Phase) (f : Fade) → s .task ≡ task.Fade f → f .phase ≡ p → Waited s (kind.Answer a) (fadeAnsweredIn p s f a at on)
-    fade (Asked since) f e q = fade-waited s f since at on a e q
-    fade (Waiting until) f e q = no-wait refl
-
-    move : (p : Phase) (m : Move) → s .task ≡ task.Move m → m .phase ≡ p → Waited s (kind.Answer a) (moveAnsweredIn p s m a at on)
-    move (Asked since) m e q = move-waited s m since at on a e q
-    move (Waiting until) m e q = no-wait refl
-
-    by : (x : Task) → s .task ≡ x → Waited s (kind.Answer a) (answeredIn x s a at on)
-    by task.Rest e = no-wait refl
-    by task.StartUp e = ordered-free (start-up-ordered s a) (start-up-free a)
-    by (task.Fade f) e = fade (f .phase) f e refl
-    by (task.Move m) e = move (m .phase) m e refl
-    by (task.OnReaction r) e = ordered-free (on-ordered s r at on a) (on-free a)
-
-pub run-waited : (s : LevelControlState) (k : EventKind) (at : Micros) (on : Bool) → Waited s k (run s k at on)
-unfolding orders run
-run-waited s kind.StartUp at on = ordered-free (run-ordered s kind.StartUp at on) refl
-run-waited s (kind.MoveToLevel r) at on = ordered-free (run-ordered s (kind.MoveToLevel r) at on) refl
-run-waited s (kind.Move r) at on = ordered-free (run-ordered s (kind.Move r) at on) refl
-run-waited s (kind.Step r) at on = ordered-free (run-ordered s (kind.Step r) at on) refl
-run-waited s (kind.Stop r) at on = ordered-free (run-ordered s (kind.Stop r) at on) refl
-run-waited s (kind.Answer a) at on = answered-waited s a at on
-run-waited s kind.Wake at on = ordered-free (run-ordered s kind.Wake at on) (wake-free (s .task))
-run-waited s (kind.OnOffChanged true) at on = ordered-free (run-ordered s (kind.OnOffChanged true) at on) refl
-run-waited s (kind.OnOffChanged false) at on = ordered-free (run-ordered s (kind.OnOffChanged false) at on) refl
-run-waited s (kind.Scene r) at on = ordered-free (run-ordered s (kind.Scene r) at on) refl
-run-waited s (kind.DeviceUpdate level) at on = ordered-free (run-ordered s (kind.DeviceUpdate level) at on) refl
-run-waited s kind.DeviceStop at on = ordered-free (run-ordered s kind.DeviceStop at on) refl
-run-waited s (kind.SetOnLevel level) at on = ordered-free (run-ordered s (kind.SetOnLevel level) at on) refl
-run-waited s (kind.SetDefaultMoveRate rate) at on = ordered-free (run-ordered s (kind.SetDefaultMoveRate rate) at on) refl
-run-waited s (kind.SetStartUpCurrentLevel level) at on = ordered-free (run-ordered s (kind.SetStartUpCurrentLevel level) at on) refl
-run-waited s kind.FactoryReset at on = ordered-free (run-ordered s kind.FactoryReset at on) refl
+    by : (c : Course) → course.course s (brings s k) at ≡ c → CourseWaits s k c → Waited s k (gives s (brings s k) at on)
+    by c e (calm d h) = no-wait (letters-waits s (brings s k) at on ∙ ap (λ (x : Course). waitsIn (courseLetter x)) e ∙ h)
+    by c e (waiting v since u t answers asked order waits-so) =
+        waits v since (micros u) answers asked order
+        (subst (λ (x : Course). InPhase (taskOn x (s .task)) (Waiting (micros u))) (sym e) waits-so)
+        (letters-waits s (brings s k) at on ∙ ap (λ (x : Course). waitsIn (courseLetter x)) e)
 
 -- the W that stands in a list is the one that is found in it
 

@@ -42,7 +42,7 @@ use Rattle.transitions.proofs.Booleans.{and-both, or-second}
 use Rattle.level_control.proofs.FadeInvariant.{Inv, Kept, answer-is, wake-is, keep}
 use Rattle.level_control.proofs.StartLaws.{Starting, go-to-starts}
 use Rattle.level_control.proofs.EveryFade.{accepted-zero, starts, kept}
-use Rattle.level_theorems.proofs.Acceptance.{answers-accepted, wakes-accepted}
+use Rattle.level_theorems.proofs.Acceptance.{answers-accepted, fade-wakes-accepted}
 use Rattle.level_theorems.proofs.Progress.{next-state, next-answers, wake-opens, answered}
 
 -- a request that is open was made by the last accepted time; a wait ends within a period of it
@@ -179,7 +179,7 @@ module _ (c t T : ℕ) (pos : 1 ≤ T) (small : T ≤ 65535) where
       let e : Event = event at (p .on) kind.Wake in
       let wait : until .0 ≤ r .state .«last_accepted» .0 + each = rw period at w in
       let soon : at .0 ≤ latest .0 = omega arith in
-      let ok : accepted (r .state) e ≡ true = wakes-accepted (r .state) f until at (p .on) q z (omega arith) (omega arith) soon in
+      let ok : accepted (r .state) e ≡ true = fade-wakes-accepted (r .state) f until at (p .on) q z (omega arith) (omega arith) soon in
       let on : (not (accepted (r .state) e) || isOnward (e .kind)) ≡ true = or-second (not (accepted (r .state) e)) true refl in
       let isOpen : taskOpen (nextRun r e .state .task) ≡ true =
       ap (λ (s : LevelControlState). taskOpen (s .task)) (next-state r e) ∙ wake-opens (r .state) f at (p .on) q (accepted-zero (r .state) e ok) in

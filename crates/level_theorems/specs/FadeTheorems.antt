@@ -10,7 +10,6 @@ use Rattle.transitions.specs.Tasks.{taskOpen}
 use Rattle.transitions.specs.declared.events.DeviceAnswer.{DeviceAnswer}
 use Rattle.transitions.specs.declared.events.Event.{Event}
 use Rattle.transitions.specs.declared.events.EventKind.the-variants as kind
-use Rattle.transitions.specs.declared.tasks.Fade.{Fade}
 use Rattle.transitions.specs.declared.tasks.OnReaction.{OnReaction}
 use Rattle.transitions.specs.declared.tasks.Phase.the-variants.{Waiting}
 use Rattle.transitions.specs.declared.tasks.Task.the-variants as task
@@ -21,6 +20,7 @@ use Rattle.level_control.specs.Path.{path}
 use Rattle.level_control.specs.Run.{Run, accepted, started, play, onlyOnward}
 use Rattle.level_control.specs.Starts.{distance}
 use Rattle.level_control.specs.Demand3.{Starts, directly, after-on}
+use Rattle.level_theorems.specs.Demand1.{InPhase}
 use Rattle.level_theorems.specs.Covered.{Covered}
 use Rattle.level_theorems.specs.Replies.{Reply, answersFrom, inTime, delays, Ends}
 use Rattle.level_theorems.specs.Uninterrupted.{uninterrupted, openOf}
@@ -61,11 +61,11 @@ AnswersAccepted =
     → taskOpen (s .task) ≡ true → s .«last_accepted» .0 ≤ at .0 → at .0 ≤ latest .0
     → accepted s (event at on (kind.Answer a)) ≡ true
 
--- While a fade waits, a wake at any time from the end of the wait, or the last accepted time if that is later, to 2^62 − 1 is accepted.
+-- While a fade or a move waits, a wake at any time from the end of the wait, or the last accepted time if that is later, to 2^62 − 1 is accepted.
 abbrev pub WakesAccepted : Type 0
 WakesAccepted =
-    (s : LevelControlState) (f : Fade) (until at : Micros) (on : Bool)
-    → s .task ≡ task.Fade f → f .phase ≡ Waiting until → until .0 ≤ at .0 → s .«last_accepted» .0 ≤ at .0 → at .0 ≤ latest .0
+    (s : LevelControlState) (until at : Micros) (on : Bool)
+    → InPhase (s .task) (Waiting until) → until .0 ≤ at .0 → s .«last_accepted» .0 ≤ at .0 → at .0 ≤ latest .0
     → accepted s (event at on kind.Wake) ≡ true
 
 -- Every fade comes to rest after n answers, whatever levels the device answers and however late, if its waits end and its answers come by 2^62 − 1.

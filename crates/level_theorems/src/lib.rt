@@ -1,4 +1,5 @@
-// The page of theorems about the machine, each held by a function's contract: there is nothing to run.
+// The page of theorems about the machine, each held by a function's contract: there is nothing to run. What every event gives, field by field and letter by
+// letter, is `every_field_holds` of event_theorems.
 ghost use Rattle.level_theorems.specs.Demand1.{Demand1};
 ghost use Rattle.level_theorems.specs.FadeTheorems.{AnswersAccepted, ComesToRest, EveryFadeCovered, ExactKey, PathIs, ReactionsCovered, TaskAgrees, Uninterrupted, WaitsEnd, WakesAccepted};
 ghost use Rattle.level_theorems.specs.Instances.{Instances};
@@ -47,7 +48,7 @@ pub fn answers_are_accepted()
     ensures { λ r. ⌜ AnswersAccepted ⌝ }
 {}
 
-// Progress: while a fade waits, a wake that is due is accepted.
+// Progress: while a fade or a move waits, a wake that is due is accepted.
 pub fn wakes_are_accepted()
     ensures { λ r. ⌜ WakesAccepted ⌝ }
 {}

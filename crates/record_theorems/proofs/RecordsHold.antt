@@ -119,8 +119,8 @@ answer-records-accepted s b a at on p fits isOpen past soon =
     accepts-event s b (event at on (kind.Answer a)) p (record { time = omega arith; kind = fits }) (answers-accepted s a at on isOpen past soon)
 
 pub wake-records-accepted : WakeRecordsAccepted
-wake-records-accepted s b f until at on p runs waits due past soon =
-    accepts-event s b (event at on kind.Wake) p (record { time = omega arith; kind = tt }) (wakes-accepted s f until at on runs waits due past soon)
+wake-records-accepted s b until at on p waits due past soon =
+    accepts-event s b (event at on kind.Wake) p (record { time = omega arith; kind = tt }) (wakes-accepted s until at on waits due past soon)
 
 pub records-come-to-rest : RecordsComeToRest
 records-come-to-rest x up o c t T ps conf w ne pos n bytes time =

@@ -11,9 +11,7 @@ use Rattle.transitions.specs.declared.events.DeviceAnswer.{DeviceAnswer}
 use Rattle.transitions.specs.declared.events.Event.{Event}
 use Rattle.transitions.specs.declared.events.EventKind.the-variants as kind
 use Rattle.transitions.specs.declared.settings.Settings.{Settings}
-use Rattle.transitions.specs.declared.tasks.Fade.{Fade}
 use Rattle.transitions.specs.declared.tasks.Phase.the-variants.{Waiting}
-use Rattle.transitions.specs.declared.tasks.Task.the-variants as task
 use Rattle.records.specs.Events.{eventRead}
 use Rattle.records.specs.Settings.{settingsRead}
 use Rattle.records.specs.Written.{AnswerFits, eventRecord}
@@ -26,6 +24,7 @@ use Rattle.level_control.specs.Run.{Run, Nothing, started}
 use Rattle.level_control.specs.Starts.{distance}
 use Rattle.level_control.specs.State.{newState}
 use Rattle.level_control.specs.declared.state.LevelControlState.{LevelControlState}
+use Rattle.level_theorems.specs.Demand1.{InPhase}
 use Rattle.level_theorems.specs.Replies.{Reply, answersFrom, inTime}
 use Rattle.sheet.specs.Lines as lines
 use Rattle.sheet.specs.Lines.{linesFrom, textOf}
@@ -80,12 +79,12 @@ AnswerRecordsAccepted =
     → taskOpen (s .task) ≡ true → s .«last_accepted» .0 ≤ at .0 → at .0 ≤ latest .0
     → accepts (answerTo s b) ≡ true
 
--- While a fade waits, the record of a wake from the end of the wait on, and not before the last accepted time, to 2^62 − 1 is accepted.
+-- While a fade or a move waits, the record of a wake from the end of the wait on, and not before the last accepted time, to 2^62 − 1 is accepted.
 abbrev pub WakeRecordsAccepted : Type 0
 WakeRecordsAccepted =
-    (s : LevelControlState) (b : Record) (f : Fade) (until at : Micros) (on : Bool)
+    (s : LevelControlState) (b : Record) (until at : Micros) (on : Bool)
     → b .bytes ≡ eventRecord (event at on kind.Wake)
-    → s .task ≡ task.Fade f → f .phase ≡ Waiting until → until .0 ≤ at .0 → s .«last_accepted» .0 ≤ at .0 → at .0 ≤ latest .0
+    → InPhase (s .task) (Waiting until) → until .0 ≤ at .0 → s .«last_accepted» .0 ≤ at .0 → at .0 ≤ latest .0
     → accepts (answerTo s b) ≡ true
 
 abbrev pub recordsOf : List Event → List (List ℕ)

@@ -18,7 +18,7 @@ pub fn answer_records_are_accepted()
     ensures { λ r. ⌜ AnswerRecordsAccepted ⌝ }
 {}
 
-// Progress over records: while a fade waits, the record of a wake that is due is accepted.
+// Progress over records: while a fade or a move waits, the record of a wake that is due is accepted.
 pub fn wake_records_are_accepted()
     ensures { λ r. ⌜ WakeRecordsAccepted ⌝ }
 {}

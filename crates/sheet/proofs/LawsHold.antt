@@ -1,5 +1,5 @@
 -- The laws of specs/Laws.antt. Assumes nothing.
-use Prim.Native.Nat.{ℕ, zero, suc, _+_, _-_, _%_, _<_, _≤_, min}
+use Prim.Native.Nat.{ℕ, zero, suc, _+_, _-_, _/_, _%_, _<_, _≤_, min}
 use mathlib.Core.Bool.{Bool, true, false, cond}
 use mathlib.Core.Path.{_≡_, refl, sym, ap, subst, _∙_}
 use mathlib.Core.List.{List, [], _∷_, _++_}
@@ -10,17 +10,18 @@ use borrow.Author.Tests.{lt-ltb, le-ltb, le-leb, lt-leb, leb-true, eqb-true, eq-
 use lib.Dec.{leb, eqb}
 use lib.IntN.{ℤ, pos, negsuc}
 use lib.ListN.{length, take, drop, length-append, length-drop}
-use lib.Seq.{sets, sets-eq, take-at, take-all, length-take-le}
+use lib.Seq.{sets, sets-eq, take-at, take-all, drop-at, length-take-le}
 use Rattle.text.specs.Text.{ascii, digits, digitsWithin}
 use Rattle.text.proofs.DigitLaws.{by-test}
 use Rattle.records.specs.Settings.{settingsRead, settingsReadNumber}
 use Rattle.records.specs.declared.settings.SettingsRead.{SettingsRead}
 use Rattle.records.specs.declared.settings.SettingsRead.the-variants as read
 use Rattle.transitions.specs.declared.settings.Settings.{Settings}
+use Rattle.level_control.specs.Answer.{Outcome}
 use Rattle.level_control.specs.State.{newState}
 use Rattle.level_control.specs.declared.state.LevelControlState.{LevelControlState}
 use Rattle.sheet.specs.Laws.{Laws}
-use Rattle.sheet.specs.Lines.{recordOutcome, recordsOf, outcomesOf, textOf}
+use Rattle.sheet.specs.Lines.{recordOutcome, recordsOf, outcomesOf, outcomeLine, linesFrom, textOf}
 use Rattle.sheet.specs.Play.{lengthOk, fitted, playWith, playOf, numberOf, result, returned, refusalText, shown, keyOf, printed}
 use Rattle.sheet.specs.declared.play.Played.{Played}
 use Rattle.sheet.specs.declared.play.Played.the-variants.{Text, Refused}
@@ -231,6 +232,24 @@ prints-number : (records out : List ℕ) (n : ℕ) → returned (playOf records 
 unfolding keyOf
 prints-number records out n e h = prints (playOf records out) out n (keeps records out) e h
 
+-- the first 20 bytes are the first record
+first-line : (start : LevelControlState) (bytes rest : List ℕ) → length bytes ≡ 20
+    → textOf start (bytes ++ rest)
+    ≡ outcomeLine 1 (recordOutcome start bytes) ++ linesFrom 2 (outcomesOf (recordOutcome start bytes .state) (recordsOf (length rest / 20) rest))
+unfolding textOf recordsOf outcomesOf linesFrom
+first-line start bytes rest h =
+    let whole : length (bytes ++ rest) ≡ 20 + length rest = length-append bytes rest ∙ ap (λ (n : ℕ). n + length rest) h in
+    let more : length (bytes ++ rest) / 20 ≡ suc (length rest / 20) = omega (arith, whole) in
+    ap (λ (n : ℕ). linesFrom 1 (outcomesOf start (recordsOf n (bytes ++ rest)))) more
+    ∙ ap (λ (b : List ℕ). outcomeLine 1 (recordOutcome start b) ++ linesFrom 2 (outcomesOf (recordOutcome start b .state) (recordsOf (length rest / 20) (drop 20 (bytes ++ rest)))))
+    (take-at bytes rest 20 h)
+    ∙ ap (λ (b : List ℕ). outcomeLine 1 (recordOutcome start bytes) ++ linesFrom 2 (outcomesOf (recordOutcome start bytes .state) (recordsOf (length rest / 20) b)))
+    (drop-at bytes rest 20 h)
+
+next-line : (index : ℕ) (o : Outcome) (more : List Outcome) → linesFrom index (o ∷ more) ≡ outcomeLine index o ++ linesFrom (index + 1) more
+unfolding linesFrom
+next-line index o more = refl
+
 line-each : (start : LevelControlState) (k : ℕ) (bytes : List ℕ) → length (outcomesOf start (recordsOf k bytes)) ≡ k
 unfolding outcomesOf recordsOf
 line-each start zero bytes = refl
@@ -264,5 +283,7 @@ sheet-laws = record {
   refusal-lines = refusal-lines;
   reads-enough = reads-enough;
   same-length = λ records out. keeps records out .1;
+  first-line = first-line;
+  next-line = next-line;
   a-line-each = line-each;
 }

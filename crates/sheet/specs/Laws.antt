@@ -1,5 +1,5 @@
 -- The sheet in document 01's own words: laws for every list of bytes, by which the definitions of this folder can be believed.
-use Prim.Native.Nat.{ℕ, _+_, _%_, _≤_, _<_}
+use Prim.Native.Nat.{ℕ, _+_, _/_, _%_, _≤_, _<_}
 use mathlib.Core.Bool.{true, false}
 use mathlib.Core.Path.{_≡_}
 use mathlib.Core.Logic.{_↔_, _⊎_}
@@ -10,9 +10,10 @@ use Rattle.text.specs.Text.{ascii, digits}
 use Rattle.records.specs.Settings.{settingsRead, settingsReadNumber}
 use Rattle.records.specs.declared.settings.SettingsRead.the-variants as read
 use Rattle.transitions.specs.declared.settings.Settings.{Settings}
+use Rattle.level_control.specs.Answer.{Outcome}
 use Rattle.level_control.specs.State.{newState}
 use Rattle.level_control.specs.declared.state.LevelControlState.{LevelControlState}
-use Rattle.sheet.specs.Lines.{recordsOf, outcomesOf, textOf}
+use Rattle.sheet.specs.Lines.{recordOutcome, recordsOf, outcomesOf, outcomeLine, linesFrom, textOf}
 use Rattle.sheet.specs.Play.{lengthOk, playOf, returned, refusalText, keyOf, printed}
 use Rattle.sheet.specs.declared.play.Played.the-variants.{Refused}
 use Rattle.sheet.specs.declared.play.Refusal.{Refusal}
@@ -63,5 +64,10 @@ pub record Laws : Type 0 where
   pub reads-enough : (input out : List ℕ) → playOf (take 5121 input) out ≡ playOf input out
   -- the output keeps its length
   pub same-length : (records out : List ℕ) → length (playOf records out .1) ≡ length out
+  -- "index from 1": the first record's line has index 1, and each line one more than the line before it
+  pub first-line : (start : LevelControlState) (bytes rest : List ℕ) → length bytes ≡ 20
+      → textOf start (bytes ++ rest)
+      ≡ outcomeLine 1 (recordOutcome start bytes) ++ linesFrom 2 (outcomesOf (recordOutcome start bytes .state) (recordsOf (length rest / 20) rest))
+  pub next-line : (index : ℕ) (o : Outcome) (more : List Outcome) → linesFrom index (o ∷ more) ≡ outcomeLine index o ++ linesFrom (index + 1) more
   -- a line for each event record, damaged ones too
   pub a-line-each : (start : LevelControlState) (k : ℕ) (bytes : List ℕ) → length (outcomesOf start (recordsOf k bytes)) ≡ k
