@@ -6,7 +6,7 @@ use mathlib.Core.List.{List, [], _++_, append-nil, append-assoc}
 use lib.Dec.{eqb, leb}
 use Rattle.units.specs.Units.{tenths, millis, micros, tenthsUp, millisToMicros, later}
 use Rattle.units.specs.declared.Micros.{Micros}
-use Rattle.transitions.specs.CurrentLevel.{second, currentLevelDue}
+use Rattle.transitions.specs.CurrentLevel.{currentLevelDue}
 use Rattle.transitions.specs.Events.{act, actIf, actCoupled}
 use Rattle.transitions.specs.Fade.{isTransitionStart, remainingAfter, waitOrAsk}
 use Rattle.transitions.specs.Matter.{changed}
@@ -16,7 +16,7 @@ use Rattle.transitions.specs.Types.{isMissing, isLevel, levelOr}
 use Rattle.transitions.specs.declared.coupling.Coupling.{Coupling}
 use Rattle.transitions.specs.declared.coupling.Coupling.the-variants.{NotSent}
 use Rattle.transitions.specs.declared.events.Action.{Action}
-use Rattle.transitions.specs.declared.events.ActionKind.the-variants.{E, P, S, L, R}
+use Rattle.transitions.specs.declared.events.ActionKind.the-variants.{E, P, S, L}
 use Rattle.transitions.specs.declared.events.DeviceAnswer.{DeviceAnswer}
 use Rattle.transitions.specs.declared.events.DeviceAnswer.the-variants as device
 use Rattle.transitions.specs.declared.fade.Next.the-variants.{Wait, Ask}
@@ -31,8 +31,8 @@ use Rattle.transitions.specs.declared.tasks.Task.{Task}
 use Rattle.transitions.specs.declared.tasks.Task.the-variants as task
 use Rattle.transitions.specs.declared.types.Level.{Level}
 use Rattle.transitions.specs.declared.types.Level.the-variants.{Known, Missing}
-use Rattle.transitions.proofs.RuleLaws.{rule-laws}
-use Rattle.level_control.specs.Answer.{Outcome, done, reportsOf}
+use Rattle.transitions.specs.ActionList.{reportsOf}
+use Rattle.level_control.specs.Answer.{Outcome, done}
 use Rattle.level_control.specs.Events.{fadeAnsweredIn, moveAnsweredIn, answeredIn, answered}
 use Rattle.level_control.specs.Fades.{fadeCoupling, fadeStored, fadeTold, restored, fadeEndedBy, fadeEnded, fadeThen, fadeGoesOn, moveToLevelTransition, fadeMissing, deviceFailed, fadeAnswered}
 use Rattle.level_control.specs.Moves.{moveEnds, moveNext, moveThen, moveTransition, moveMissing, moveAnswered}
@@ -42,7 +42,7 @@ use Rattle.level_control.specs.Rest.{storedStartUp, startUpAnswered}
 use Rattle.level_control.specs.Starts.{givenOr, target}
 use Rattle.level_control.specs.State.{accept, withAnswered, withLevel, withPreviousLevel, withTask, withRemainingTime}
 use Rattle.level_control.specs.Targets.{requestTo, goTo}
-use Rattle.level_control.specs.declared.answer.Reports.{Reports}
+use Rattle.transitions.specs.declared.«action_list».Reports.{Reports}
 use Rattle.level_control.specs.declared.reports.Told.{Told}
 use Rattle.level_control.specs.declared.state.LevelControlState.{LevelControlState}
 use Rattle.level_control.proofs.StartLaws.{target-is, given-is}

@@ -1,6 +1,6 @@
 -- What begins a task, or goes on with one, by field and by letter. Assumes nothing.
-use Prim.Native.Nat.{ℕ, _+_, _-_, _≤_}
-use mathlib.Core.Bool.{Bool, true, false, cond, not, _&&_, _||_}
+use Prim.Native.Nat.{ℕ, _+_, _-_}
+use mathlib.Core.Bool.{Bool, true, false, cond, not, _&&_}
 use mathlib.Core.Path.{_≡_, refl, sym, ap, _∙_}
 use mathlib.Core.List.{List, [], _++_, append-nil, append-assoc}
 use native.Mathlib.Omega.{arith}
@@ -12,8 +12,7 @@ use Rattle.transitions.specs.Fade.{fadePeriod, nextLevel}
 use Rattle.transitions.specs.Matter.{changed}
 use Rattle.transitions.specs.Tasks.{beginFade, fadeFrom, nextMove}
 use Rattle.transitions.specs.Types.{isMissing, isLevel, sameLevel}
-use Rattle.transitions.specs.declared.coupling.Coupling.{Coupling}
-use Rattle.transitions.specs.declared.coupling.Coupling.the-variants.{Sent, NotSent}
+use Rattle.transitions.specs.declared.coupling.Coupling.the-variants.{NotSent}
 use Rattle.transitions.specs.declared.events.Action.{Action}
 use Rattle.transitions.specs.declared.events.ActionKind.the-variants.{E, L, P, R, S}
 use Rattle.transitions.specs.declared.tasks.Begin.the-variants as begin
@@ -26,13 +25,14 @@ use Rattle.transitions.specs.declared.types.Level.{Level}
 use Rattle.transitions.specs.declared.types.Level.the-variants.{Known, Missing}
 use Rattle.transitions.specs.declared.types.Mode.{Mode}
 use Rattle.transitions.specs.declared.types.Mode.the-variants.{Up, Down}
-use Rattle.level_control.specs.Answer.{Outcome, done, reportsOf}
+use Rattle.transitions.specs.ActionList.{reportsOf}
+use Rattle.level_control.specs.Answer.{Outcome, done}
 use Rattle.level_control.specs.Moves as moves
 use Rattle.level_control.specs.Moves.{moveBy, moveGoesOn}
 use Rattle.level_control.specs.Reports.{coupledBy}
 use Rattle.level_control.specs.State.{withTask}
 use Rattle.level_control.specs.Targets.{goToBy, goTo}
-use Rattle.level_control.specs.declared.answer.Reports.{Reports}
+use Rattle.transitions.specs.declared.«action_list».Reports.{Reports}
 use Rattle.level_control.specs.declared.reports.Told.{Told}
 use Rattle.level_control.specs.declared.state.LevelControlState.{LevelControlState}
 use Rattle.event_theorems.specs.Course as course

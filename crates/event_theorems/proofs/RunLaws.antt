@@ -1,6 +1,6 @@
 -- What an event that is no answer gives, by field and by letter. Assumes nothing.
 use Prim.Native.Nat.{ℕ, _≤_}
-use mathlib.Core.Bool.{Bool, true, false, cond, not, _&&_, _||_, true≢false}
+use mathlib.Core.Bool.{Bool, true, false, cond, not, _&&_, true≢false}
 use mathlib.Core.Path.{_≡_, refl, sym, ap, _∙_}
 use mathlib.Core.List.{List, [], _++_, append-nil, append-assoc}
 use native.Mathlib.Omega.{arith}
@@ -21,7 +21,7 @@ use Rattle.transitions.specs.declared.commands.MoveRate.the-variants.{Goes}
 use Rattle.transitions.specs.declared.commands.StepTime.{StepTime}
 use Rattle.transitions.specs.declared.coupling.Coupling.the-variants.{NotSent}
 use Rattle.transitions.specs.declared.events.Action.{Action}
-use Rattle.transitions.specs.declared.events.ActionKind.the-variants.{K, L, R}
+use Rattle.transitions.specs.declared.events.ActionKind.the-variants.{K, L}
 use Rattle.transitions.specs.declared.events.MoveRequest.{MoveRequest}
 use Rattle.transitions.specs.declared.events.MoveToLevelRequest.{MoveToLevelRequest}
 use Rattle.transitions.specs.declared.events.SceneRequest.{SceneRequest}
@@ -35,7 +35,8 @@ use Rattle.transitions.specs.declared.types.Mode.{Mode}
 use Rattle.transitions.specs.declared.types.Mode.the-variants.{Up, Down}
 use Rattle.transitions.proofs.MatterLaws.{matter-agrees}
 use Rattle.transitions.proofs.RuleLaws.{rule-laws}
-use Rattle.level_control.specs.Answer.{Outcome, done, reportsOf}
+use Rattle.transitions.specs.ActionList.{reportsOf}
+use Rattle.level_control.specs.Answer.{Outcome, done}
 use Rattle.level_control.specs.Causes.{overflowsFrom, stepOverflows}
 use Rattle.level_control.specs.Events.{wokenIn, woken}
 use Rattle.level_control.specs.Fades.{fadeWoken}
@@ -46,13 +47,13 @@ use Rattle.level_control.specs.Rest.{startUpOr, startUpLevel, startUpAt, starte
 use Rattle.level_control.specs.Starts.{distance, givenOr, stepIn, target}
 use Rattle.level_control.specs.State.{accept, putBack, withAnswered, withAttributes, withTask, withRemainingTime}
 use Rattle.level_control.specs.Targets.{quiet, requestTo, goTo, movedToLevel, recalledAt, recalled, steppedBy, steppedFrom, stepped, steppedLevel, steppedTime, stopped}
-use Rattle.level_control.specs.declared.answer.Reports.{Reports}
+use Rattle.transitions.specs.declared.«action_list».Reports.{Reports}
 use Rattle.level_control.specs.declared.state.LevelControlState.{LevelControlState}
 use Rattle.level_control.proofs.StartLaws.{target-is, given-is, step-is, takes}
 use Rattle.event_theorems.specs.Brings.{Brings, Command, Runs, Target, turned, sceneTarget, stepTarget}
 use Rattle.event_theorems.specs.Brings as bring
 use Rattle.event_theorems.specs.Course as course
-use Rattle.event_theorems.specs.Course.{Course, commandCourse, courseLetter, towards, taskOn}
+use Rattle.event_theorems.specs.Course.{commandCourse, courseLetter, towards, taskOn}
 use Rattle.event_theorems.specs.Fields.{nextState}
 use Rattle.event_theorems.specs.Letters.{couplesReached, reached, commandCouplesFirst, commandReports, commandCouplesLast, leavesMin, wakeCouples, letters}
 use Rattle.event_theorems.proofs.NumberLaws.{rate-is}

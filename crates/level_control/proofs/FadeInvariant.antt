@@ -1,6 +1,6 @@
 -- What holds between two events of a fade, and that each accepted answer with a level and each accepted wake keeps it. Assumes nothing.
-use Prim.Native.Nat.{ℕ, zero, suc, _+_, _-_, _*_, _/_, _≤_, _<_}
-use mathlib.Core.Bool.{Bool, true, false, cond, not, _||_, true≢false, false≢true}
+use Prim.Native.Nat.{ℕ, zero, _+_, _-_, _*_, _/_, _≤_, _<_}
+use mathlib.Core.Bool.{Bool, true, false, cond, not, _||_, false≢true}
 use mathlib.Core.Path.{_≡_, refl, sym, ap, _∙_}
 use mathlib.Core.List.{List, [], _∷_, _++_, append-nil}
 use native.Mathlib.Omega.{arith}
@@ -9,14 +9,13 @@ use borrow.Author.Tests.{eqb-true, eqb-false, eq-eqb, ne-eqb, not-false}
 use lib.Dec.{eqb}
 use lib.ListN.{length, length-append}
 use lib.Seq.{append-snoc}
-use Rattle.units.specs.Units.{tenths, millis, tenthsUp}
 use Rattle.units.specs.declared.Micros.{Micros}
 use Rattle.units.specs.declared.Tenths.{Tenths}
-use Rattle.transitions.specs.Events.{act, event, turnOf}
+use Rattle.transitions.specs.Events.{event, turnOf}
 use Rattle.transitions.specs.Fade.{nextLevel, remainingAfter}
 use Rattle.transitions.specs.Tasks.{fadeLast, fadeLeft, fadeNext, fadeAsking, fadeWaiting, levelToRestore, taskOpen, taskDue, phaseOpen, phaseDue}
 use Rattle.transitions.specs.Types.{isLevel}
-use Rattle.transitions.specs.declared.events.ActionKind.the-variants.{D, W, P, L}
+use Rattle.transitions.specs.declared.events.ActionKind.the-variants.{P}
 use Rattle.transitions.specs.declared.events.DeviceAnswer.{DeviceAnswer}
 use Rattle.transitions.specs.declared.events.DeviceAnswer.the-variants as device
 use Rattle.transitions.specs.declared.events.Event.{Event}
@@ -34,7 +33,8 @@ use Rattle.transitions.specs.declared.tasks.Task.the-variants as task
 use Rattle.transitions.specs.declared.types.Level.{Level}
 use Rattle.transitions.specs.declared.types.Level.the-variants.{Known, Missing}
 use Rattle.level_control.specs.State.{accept, withTask, withLevel, withRemainingTime}
-use Rattle.level_control.specs.Answer.{Outcome, done, refused, reportsOf}
+use Rattle.transitions.specs.ActionList.{reportsOf}
+use Rattle.level_control.specs.Answer.{Outcome, done, refused}
 use Rattle.level_control.specs.Reports.{writeRemainingTime}
 use Rattle.level_control.specs.Fades.{fadeTold, restored, fadeEndedBy, fadeEnded, fadeThen, fadeGoesOn, moveToLevelTransition, fadeAnswered, fadeWoken}
 use Rattle.level_control.specs.Causes.{turnTests, commandTestsOf}
@@ -47,7 +47,7 @@ use Rattle.level_control.specs.declared.state.LevelControlState.{LevelCo
 use Rattle.level_control.proofs.PathLaws.{path-step, path-end, length-path}
 use Rattle.level_control.proofs.TimeLaws.{shownOf, falls}
 use Rattle.level_control.proofs.SeenLaws.{Silent, silent-append, silent-if, silent-reports, asks-after, opened-after}
-use Rattle.level_control.proofs.EventLaws.{event-refused, event-runs, event-number, TurnPasses, turn-passes}
+use Rattle.level_control.proofs.EventLaws.{event-refused, event-runs, event-number, turn-passes}
 
 -- a running fade: what was asked for, with what is left to ask for, is the path; `unanswered` requests are open
 pub record Running (c t T : ℕ) (asked : List ℕ) (k shown target counter time left period unanswered : ℕ) : Type 0 where

@@ -8,10 +8,10 @@ use Rattle.transitions.specs.declared.coupling.Coupling.{Coupling}
 use Rattle.transitions.specs.declared.coupling.Coupling.the-variants.{Sent, NotSent}
 use Rattle.transitions.specs.declared.events.Action.{Action}
 use Rattle.transitions.specs.declared.events.ActionKind.{ActionKind}
-use Rattle.transitions.specs.declared.events.ActionKind.the-variants.{P, S, C, L, R}
-use Rattle.level_control.specs.Answer.{reportsOf}
+use Rattle.transitions.specs.declared.events.ActionKind.the-variants.{P, S, L, R}
+use Rattle.transitions.specs.ActionList.{reportsOf}
 use Rattle.level_control.specs.Run.{Pending, askedBy, asks, openedBy, opened}
-use Rattle.level_control.specs.declared.answer.Reports.{Reports}
+use Rattle.transitions.specs.declared.«action_list».Reports.{Reports}
 
 pub asks-append : (l r : List Action) → asks (l ++ r) ≡ asks l ++ asks r
 asks-append [] r = refl

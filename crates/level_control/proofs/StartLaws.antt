@@ -40,7 +40,8 @@ use Rattle.transitions.specs.declared.types.Time.the-variants as time
 use Rattle.transitions.proofs.Booleans.{and-first, and-second}
 use Rattle.transitions.proofs.MatterLaws.{matter-agrees}
 use Rattle.level_control.specs.State.{accept, withTask, withAnswered}
-use Rattle.level_control.specs.Answer.{Outcome, done, reportsOf}
+use Rattle.transitions.specs.ActionList.{reportsOf}
+use Rattle.level_control.specs.Answer.{Outcome, done}
 use Rattle.level_control.specs.Reports.{continues, setLevel, toldLevel}
 use Rattle.level_control.specs.Targets.{quiet, requestTo, goToBy, goTo, movedToLevel, steppedLevel, steppedTime, steppedBy, steppedFrom, stepped, recalledAt, recalled}
 use Rattle.level_control.specs.Reactions.{offTime, onTime, turnedOn, turnedOff, switched, onTo, onGoesOn, onAnswered}

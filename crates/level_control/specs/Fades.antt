@@ -1,7 +1,7 @@
 -- Part 7 of document 01 on the state: a fade's answers and wakes.
 use Prim.Native.Nat.{ℕ}
-use mathlib.Core.Bool.{Bool, true, false, cond, not, _||_}
-use mathlib.Core.List.{List, [], _++_}
+use mathlib.Core.Bool.{Bool, cond, not, _||_}
+use mathlib.Core.List.{_++_}
 use Rattle.units.specs.declared.Micros.{Micros}
 use Rattle.transitions.specs.Types.{isMissing, isLevel}
 use Rattle.transitions.specs.Events.{act, actIf}
@@ -19,7 +19,8 @@ use Rattle.transitions.specs.declared.tasks.Task.the-variants as task
 use Rattle.transitions.specs.declared.types.Level.{Level}
 use Rattle.transitions.specs.declared.types.Level.the-variants.{Known, Missing}
 use Rattle.level_control.specs.State.{withTask, withLevel, withPreviousLevel}
-use Rattle.level_control.specs.Answer.{Outcome, done, reportsOf}
+use Rattle.transitions.specs.ActionList.{reportsOf}
+use Rattle.level_control.specs.Answer.{Outcome, done}
 use Rattle.level_control.specs.Reports.{writeRemainingTime, setLevel, coupledBy}
 use Rattle.level_control.specs.declared.reports.Told.{Told}
 use Rattle.level_control.specs.declared.state.LevelControlState.{LevelControlState}

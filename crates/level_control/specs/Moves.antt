@@ -1,7 +1,7 @@
 -- Part 8 of document 01 on the state: a move, from its command to its end.
 use Prim.Native.Nat.{ℕ}
-use mathlib.Core.Bool.{Bool, true, false, cond, not, _&&_}
-use mathlib.Core.List.{List, [], _++_}
+use mathlib.Core.Bool.{Bool, cond, _&&_}
+use mathlib.Core.List.{[], _++_}
 use lib.Dec.{ltb}
 use Rattle.units.specs.declared.Micros.{Micros}
 use Rattle.transitions.specs.Types.{isLevel}
@@ -27,7 +27,8 @@ use Rattle.transitions.specs.declared.tasks.MoveStep.the-variants as step
 use Rattle.transitions.specs.declared.tasks.Task.the-variants as task
 use Rattle.transitions.specs.declared.types.Level.the-variants.{Known, Missing}
 use Rattle.level_control.specs.State.{withTask}
-use Rattle.level_control.specs.Answer.{Outcome, done, reportsOf}
+use Rattle.transitions.specs.ActionList.{reportsOf}
+use Rattle.level_control.specs.Answer.{Outcome, done}
 use Rattle.level_control.specs.Reports.{toldLevel, coupledBy}
 use Rattle.level_control.specs.Targets.{quiet}
 use Rattle.level_control.specs.Fades.{deviceFailed}

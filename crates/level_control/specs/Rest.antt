@@ -1,7 +1,7 @@
 -- Part 10 of document 01: start-up, a device's update, the setters and the reset.
 use Prim.Native.Nat.{ℕ}
-use mathlib.Core.Bool.{Bool, true, false, not}
-use mathlib.Core.List.{List, []}
+use mathlib.Core.Bool.{true, false, not}
+use mathlib.Core.List.{[]}
 use Rattle.units.specs.Numbers.{heldTo}
 use Rattle.units.specs.Units.{millis}
 use Rattle.units.specs.declared.Micros.{Micros}
@@ -16,9 +16,9 @@ use Rattle.transitions.specs.declared.types.Level.{Level}
 use Rattle.transitions.specs.declared.types.Level.the-variants.{Known, Missing}
 use Rattle.transitions.specs.declared.types.Rate.{Rate}
 use Rattle.level_control.specs.State.{putBack, withAttributes, withLevel, withTask}
-use Rattle.level_control.specs.Answer.{Outcome, done, reportsOf}
+use Rattle.transitions.specs.ActionList.{reportsOf}
+use Rattle.level_control.specs.Answer.{Outcome, done}
 use Rattle.level_control.specs.Reports.{writeRemainingTime, setLevel}
-use Rattle.transitions.specs.declared.settings.Attributes.{Attributes}
 use Rattle.level_control.specs.declared.state.LevelControlState.{LevelControlState}
 
 -- "start-up asks for the start-up level clamped to MIN..MAX, else the stored one, else nothing"

@@ -1,7 +1,7 @@
 -- Part 6 of document 01 on the state: targets, steps and stop; and a scene's target (part 10).
 use Prim.Native.Nat.{ℕ}
 use mathlib.Core.Bool.{Bool, true, false, _&&_}
-use mathlib.Core.List.{List, [], _++_}
+use mathlib.Core.List.{[], _++_}
 use Rattle.units.specs.Numbers.{apart}
 use Rattle.units.specs.Units.{tenths, millis, tenthsDown}
 use Rattle.units.specs.declared.Micros.{Micros}
@@ -23,7 +23,8 @@ use Rattle.transitions.specs.declared.tasks.Task.the-variants as task
 use Rattle.transitions.specs.declared.types.Level.{Level}
 use Rattle.transitions.specs.declared.types.Level.the-variants.{Known, Missing}
 use Rattle.level_control.specs.State.{withTask}
-use Rattle.level_control.specs.Answer.{Outcome, done, reportsOf, noReports}
+use Rattle.transitions.specs.ActionList.{reportsOf, noReports}
+use Rattle.level_control.specs.Answer.{Outcome, done}
 use Rattle.level_control.specs.Reports.{writeRemainingTime, coupledBy}
 use Rattle.level_control.specs.declared.reports.Told.{Told}
 use Rattle.level_control.specs.declared.state.LevelControlState.{LevelControlState}

@@ -1,17 +1,17 @@
-// The answer to an event: its number, the next state, and at most seven actions.
+// What an event gives: its number, the next state, and its actions, at most seven.
 // Derived from level_control.rs of project-chip/rs-matter 43f61585a4 (see NOTICE), and changed: what the source does by
 // calls (to the device, the store, the other cluster, the reports) is a list of actions here.
 use crate::state::LevelControlState;
-use transitions::action_list::report_list;
-use transitions::coupling::Coupling;
+use transitions::action_list::Actions;
+use transitions::action_list::Last;
+use transitions::action_list::Reports;
+use transitions::action_list::Then;
 use transitions::events::Action;
-use transitions::events::ActionKind;
-use units::Micros;
 ghost use mathlib.Core.Path.{_≡_};
-ghost use mathlib.Core.List.{[]};
-ghost use Rattle.level_control.specs.Answer.{done, noReports, packed, pushed, pushedCoupling, pushedIf, pushedWait, refused, reportsOf};
+ghost use Rattle.transitions.specs.ActionList.{lastOf};
+ghost use Rattle.level_control.specs.Answer.{done, outcomeOf, packed, refused};
 
-// The slots from `count` on hold X with value 0.
+// The actions as an array with their number. The slots from `count` on hold X with value 0.
 pub struct Answer {
     pub number: u8,
     pub state: LevelControlState,
@@ -19,112 +19,61 @@ pub struct Answer {
     pub count: usize,
 }
 
-// What is to be told of a state, in the order of the actions: P, S, C, L, R.
-pub struct Reports {
-    pub stored: bool,
-    pub scene: bool,
-    pub coupling: Coupling,
-    pub level: bool,
-    pub time: bool,
+// The actions by their places. An array would have to be copied with the state at every step on the way.
+pub struct Effect {
+    pub number: u8,
+    pub state: LevelControlState,
+    pub actions: Actions,
 }
 
-impl Reports {
-    pub fn none() -> Reports
-        ensures { λ r. ⌜ r ≡ noReports ⌝ }
+impl Effect {
+    // A refused event gives back the state it was given.
+    pub fn refused(state: LevelControlState, number: u8) -> Effect
+        ensures { λ r. ⌜ outcomeOf r ≡ refused state number ⌝ }
     {
-        Reports {
-            stored: false,
-            scene: false,
-            coupling: Coupling::NotSent,
-            level: false,
-            time: false,
+        let reports = Reports::none();
+        let actions = Actions {
+            reports: reports,
+            then: Then::Nothing,
+            last: Last::Nothing,
+        };
+        Effect {
+            number: number,
+            state: state,
+            actions: actions,
+        }
+    }
+}
+
+impl LevelControlState {
+    // An accepted event that leaves this state, with one action at most.
+    pub fn doing(self, last: Last) -> Effect
+        ensures { λ r. ⌜ outcomeOf r ≡ done self (lastOf last) ⌝ }
+    {
+        let reports = Reports::none();
+        let actions = Actions {
+            reports: reports,
+            then: Then::Nothing,
+            last: last,
+        };
+        Effect {
+            number: 0,
+            state: self,
+            actions: actions,
         }
     }
 }
 
 impl Answer {
-    // A refused event gives back the state it was given.
-    pub fn refused(state: LevelControlState, number: u8) -> Answer
-        ensures { λ r. ⌜ r ≡ packed (refused state number) ⌝ }
+    pub fn of(effect: Effect) -> Answer
+        ensures { λ r. ⌜ r ≡ packed (outcomeOf effect) ⌝ }
     {
-        Answer {
-            number: number,
-            state: state,
-            actions: [Action {
-                kind: ActionKind::X,
-                value: 0,
-            }; 7],
-            count: 0,
-        }
-    }
-
-    // An accepted event, with no action yet.
-    pub fn accepted(state: LevelControlState) -> Answer
-        ensures { λ r. ⌜ r ≡ packed (done state []) ⌝ }
-    {
-        Answer::refused(state, 0)
-    }
-
-    // One action more. A full list stays as it is: no event fills more than seven slots.
-    pub fn push(mut self, kind: ActionKind, value: u64) -> Answer
-        ensures { λ r. ⌜ r ≡ pushed self kind value ⌝ }
-    {
-        let at = self.count;
-        if at < 7 {
-            self.actions[at] = Action {
-                kind: kind,
-                value: value,
-            };
-            self.count = at + 1;
-        }
-        self
-    }
-
-    pub fn push_if(self, test: bool, kind: ActionKind) -> Answer
-        ensures { λ r. ⌜ r ≡ pushedIf self test kind ⌝ }
-    {
-        if test {
-            return self.push(kind, 0);
-        }
-        self
-    }
-
-    pub fn push_coupling(self, coupling: Coupling) -> Answer
-        ensures { λ r. ⌜ r ≡ pushedCoupling self coupling ⌝ }
-    {
-        match coupling {
-            Coupling::Sent(wanted) => {
-                if wanted {
-                    return self.push(ActionKind::C, 1);
-                }
-                self.push(ActionKind::C, 0)
-            }
-            Coupling::NotSent => self,
-        }
-    }
-
-    // The time of a wait becomes the number that W shows.
-    pub fn push_wait(self, until: Micros) -> Answer
-        ensures { λ r. ⌜ r ≡ pushedWait self until ⌝ }
-    {
-        self.push(ActionKind::W, until.0)
-    }
-
-    // The list is made first: a `push` copies the whole answer.
-    pub fn reporting(state: LevelControlState, reports: Reports) -> Answer
-        ensures { λ r. ⌜ r ≡ packed (done state (reportsOf reports)) ⌝ }
-    {
-        let coupling = reports.coupling;
-        let list = report_list(
-            reports.stored,
-            reports.scene,
-            coupling,
-            reports.level,
-            reports.time,
-        );
+        let state = effect.state;
+        let places = effect.actions;
+        let list = places.list();
         let actions = list.actions;
         Answer {
-            number: 0,
+            number: effect.number,
             state: state,
             actions: actions,
             count: list.count,

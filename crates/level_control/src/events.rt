@@ -1,7 +1,9 @@
 // The fifteen events: one function over all kinds.
 // Derived from level_control.rs of project-chip/rs-matter 43f61585a4 (see NOTICE), and changed.
 use crate::answer::Answer;
+use crate::answer::Effect;
 use crate::state::LevelControlState;
+use transitions::action_list::Last;
 use transitions::causes::Tests;
 use transitions::causes::first_cause;
 use transitions::events::DeviceAnswer;
@@ -11,30 +13,30 @@ use transitions::tasks::Phase;
 use transitions::tasks::Task;
 use units::Micros;
 ghost use mathlib.Core.Path.{_≡_};
-ghost use Rattle.level_control.specs.Answer.{packed};
+ghost use Rattle.level_control.specs.Answer.{outcomeOf, packed};
 ghost use Rattle.level_control.specs.Events.{answered, eventOf, run, woken};
 
 impl LevelControlState {
     // Event 5: the answer to the open request. (Without one it was refused: the state stays.)
-    pub fn answered(self, answer: DeviceAnswer, at: Micros, on_off: bool) -> Answer
-        ensures { λ r. ⌜ r ≡ packed (answered self answer at «on_off») ⌝ }
+    pub fn answered(self, answer: DeviceAnswer, at: Micros, on_off: bool) -> Effect
+        ensures { λ r. ⌜ outcomeOf r ≡ answered self answer at «on_off» ⌝ }
     {
         let task = self.task;
         match task {
-            Task::Rest => Answer::accepted(self),
+            Task::Rest => self.doing(Last::Nothing),
             Task::StartUp => self.start_up_answered(answer),
             Task::Fade(fade) => {
                 let phase = fade.phase;
                 match phase {
                     Phase::Asked { since } => self.fade_answered(fade, since, at, on_off, answer),
-                    Phase::Waiting { until: _ } => Answer::accepted(self),
+                    Phase::Waiting { until: _ } => self.doing(Last::Nothing),
                 }
             }
             Task::Move(moving) => {
                 let phase = moving.phase;
                 match phase {
                     Phase::Asked { since } => self.move_answered(moving, since, at, on_off, answer),
-                    Phase::Waiting { until: _ } => Answer::accepted(self),
+                    Phase::Waiting { until: _ } => self.doing(Last::Nothing),
                 }
             }
             Task::OnReaction(reaction) => self.on_answered(reaction, at, on_off, answer),
@@ -42,25 +44,25 @@ impl LevelControlState {
     }
 
     // Event 6: the end of a wait. (Without one it was refused.)
-    pub fn woken(self, at: Micros, on_off: bool) -> Answer
-        ensures { λ r. ⌜ r ≡ packed (woken self at «on_off») ⌝ }
+    pub fn woken(self, at: Micros, on_off: bool) -> Effect
+        ensures { λ r. ⌜ outcomeOf r ≡ woken self at «on_off» ⌝ }
     {
         let task = self.task;
         match task {
-            Task::Rest => Answer::accepted(self),
-            Task::StartUp => Answer::accepted(self),
+            Task::Rest => self.doing(Last::Nothing),
+            Task::StartUp => self.doing(Last::Nothing),
             Task::Fade(fade) => self.fade_woken(fade, at),
             Task::Move(moving) => {
                 let course = moving.course;
                 self.quiet().move_goes_on(course, at, on_off)
             }
-            Task::OnReaction(_) => Answer::accepted(self),
+            Task::OnReaction(_) => self.doing(Last::Nothing),
         }
     }
 
     // What an event does once no cause refuses it and no options stop it.
-    pub fn run(self, kind: EventKind, at: Micros, on_off: bool) -> Answer
-        ensures { λ r. ⌜ r ≡ packed (run self kind at «on_off») ⌝ }
+    pub fn run(self, kind: EventKind, at: Micros, on_off: bool) -> Effect
+        ensures { λ r. ⌜ outcomeOf r ≡ run self kind at «on_off» ⌝ }
     {
         match kind {
             EventKind::StartUp => self.started_up(),
@@ -82,8 +84,8 @@ impl LevelControlState {
     }
 
     // One event of any kind: refused with the first cause, or accepted and stopped by the options, or accepted and run.
-    pub fn event(mut self, event: Event) -> Answer
-        ensures { λ r. ⌜ r ≡ packed (eventOf self event) ⌝ }
+    pub fn effect(self, event: Event) -> Effect
+        ensures { λ r. ⌜ outcomeOf r ≡ eventOf self event ⌝ }
     {
         let at = event.at;
         let kind = event.kind;
@@ -91,12 +93,19 @@ impl LevelControlState {
         let command = self.command_tests(event.on_off, kind);
         let number = first_cause(Tests::of_event(turn, command));
         if number != 0 {
-            return Answer::refused(self, number);
+            return Effect::refused(self, number);
         }
         let state = self.accept(at);
         if command.stopped_by_options {
-            return Answer::accepted(state);
+            return state.doing(Last::Nothing);
         }
         state.run(kind, at, event.on_off)
+    }
+
+    // The same, its actions in an array.
+    pub fn event(mut self, event: Event) -> Answer
+        ensures { λ r. ⌜ r ≡ packed (eventOf self event) ⌝ }
+    {
+        Answer::of(self.effect(event))
     }
 }

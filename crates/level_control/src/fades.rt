@@ -1,11 +1,13 @@
 // Part 7 after its start: the device's answers in a fade, and the wake at the end of a wait (the source's move_to_level_transition).
 // Derived from level_control.rs of project-chip/rs-matter 43f61585a4 (see NOTICE), and changed.
-use crate::answer::Answer;
-use crate::answer::Reports;
+use crate::answer::Effect;
 use crate::reports::Told;
 use crate::state::LevelControlState;
+use transitions::action_list::Last;
+use transitions::action_list::Reports;
+use transitions::action_list::Then;
+use transitions::action_list::then_stored;
 use transitions::coupling::Coupling;
-use transitions::events::ActionKind;
 use transitions::events::DeviceAnswer;
 use transitions::fade::Next;
 use transitions::tasks::AfterFade;
@@ -15,7 +17,7 @@ use transitions::tasks::level_to_restore;
 use transitions::types::Level;
 use units::Micros;
 ghost use mathlib.Core.Path.{_≡_};
-ghost use Rattle.level_control.specs.Answer.{packed};
+ghost use Rattle.level_control.specs.Answer.{outcomeOf};
 ghost use Rattle.level_control.specs.Fades.{deviceFailed, fadeAnswered, fadeCoupling, fadeEnded, fadeGoesOn, fadeMissing, fadeTold, fadeWoken, moveToLevelTransition, restored};
 
 impl LevelControlState {
@@ -60,8 +62,8 @@ impl LevelControlState {
         at: Micros,
         on_off: bool,
         level: u8,
-    ) -> Answer
-        ensures { λ r. ⌜ r ≡ packed (moveToLevelTransition self fade since at «on_off» level) ⌝ }
+    ) -> Effect
+        ensures { λ r. ⌜ outcomeOf r ≡ moveToLevelTransition self fade since at «on_off» level ⌝ }
     {
         let told = self.fade_told(fade, at, on_off, level);
         if fade.is_last() {
@@ -72,27 +74,34 @@ impl LevelControlState {
     }
 
     // The device answered that it has no level: the fade fails, and what was to be restored is not.
-    pub fn fade_missing(self, fade: Fade, at: Micros) -> Answer
-        ensures { λ r. ⌜ r ≡ packed (fadeMissing self fade at) ⌝ }
+    pub fn fade_missing(self, fade: Fade, at: Micros) -> Effect
+        ensures { λ r. ⌜ outcomeOf r ≡ fadeMissing self fade at ⌝ }
     {
         let old = self.current_level;
         let stored = self.set_level(Level::Missing, at, fade.is_last());
         let state = stored.state;
-        Answer::accepted(state.with_task(Task::Rest))
-            .push_if(!old.is_missing(), ActionKind::P)
-            .push_if(!fade.scene_apply, ActionKind::S)
-            .push(ActionKind::E, 15)
+        let reports = Reports {
+            stored: !old.is_missing(),
+            scene: !fade.scene_apply,
+            coupling: Coupling::NotSent,
+            level: false,
+            time: false,
+        };
+        let told = Told {
+            state: state,
+            reports: reports,
+        };
+        told.ends(Last::E(15))
     }
 
     // A failed device changes nothing but the noted previous level.
-    pub fn device_failed(self) -> Answer
-        ensures { λ r. ⌜ r ≡ packed (deviceFailed self) ⌝ }
+    pub fn device_failed(self) -> Effect
+        ensures { λ r. ⌜ outcomeOf r ≡ deviceFailed self ⌝ }
     {
         let level = self.current_level;
-        Answer::accepted(self.with_previous_level(level).with_task(Task::Rest)).push(
-            ActionKind::E,
-            15,
-        )
+        self.with_previous_level(level)
+            .with_task(Task::Rest)
+            .doing(Last::E(15))
     }
 
     pub fn fade_answered(
@@ -102,8 +111,8 @@ impl LevelControlState {
         at: Micros,
         on_off: bool,
         answer: DeviceAnswer,
-    ) -> Answer
-        ensures { λ r. ⌜ r ≡ packed (fadeAnswered self fade since at «on_off» answer) ⌝ }
+    ) -> Effect
+        ensures { λ r. ⌜ outcomeOf r ≡ fadeAnswered self fade since at «on_off» answer ⌝ }
     {
         match answer {
             DeviceAnswer::Level(level) => {
@@ -115,34 +124,34 @@ impl LevelControlState {
     }
 
     // The wait is over: the next request.
-    pub fn fade_woken(self, fade: Fade, at: Micros) -> Answer
-        ensures { λ r. ⌜ r ≡ packed (fadeWoken self fade at) ⌝ }
+    pub fn fade_woken(self, fade: Fade, at: Micros) -> Effect
+        ensures { λ r. ⌜ outcomeOf r ≡ fadeWoken self fade at ⌝ }
     {
         let remaining = fade.remaining;
         let asking = fade.asking(remaining, at);
-        let counter = asking.counter as u64;
-        let next = self.with_task(Task::Fade(asking));
-        Answer::accepted(next).push(ActionKind::D, counter)
+        self.with_task(Task::Fade(asking))
+            .doing(Last::D(asking.counter))
     }
 }
 
 impl Told {
     // The level before is put back without the device: P if it changes, and L.
-    pub fn restored(self, before: u8) -> Answer
-        ensures { λ r. ⌜ r ≡ packed (restored self before) ⌝ }
+    pub fn restored(self, before: u8) -> Effect
+        ensures { λ r. ⌜ outcomeOf r ≡ restored self before ⌝ }
     {
         let state = self.state;
         let reports = self.reports;
         let level = state.current_level;
-        let next = state.with_task(Task::Rest).with_level(Level::Known(before));
-        Answer::reporting(next, reports)
-            .push_if(!level.is(before), ActionKind::P)
-            .push(ActionKind::L, 0)
+        let told = Told {
+            state: state.with_level(Level::Known(before)),
+            reports: reports,
+        };
+        told.then(Task::Rest, then_stored(!level.is(before)), Last::L)
     }
 
     // The end of a fade.
-    pub fn fade_ended(self, after: AfterFade) -> Answer
-        ensures { λ r. ⌜ r ≡ packed (fadeEnded self after) ⌝ }
+    pub fn fade_ended(self, after: AfterFade) -> Effect
+        ensures { λ r. ⌜ outcomeOf r ≡ fadeEnded self after ⌝ }
     {
         let state = self.state;
         let attributes = state.attributes;
@@ -150,32 +159,24 @@ impl Told {
         let back = level_to_restore(after, on_level);
         match back {
             Level::Known(before) => self.restored(before),
-            Level::Missing => {
-                let reports = self.reports;
-                Answer::reporting(state.with_task(Task::Rest), reports)
-            }
+            Level::Missing => self.ends(Last::Nothing),
         }
     }
 
     // Before the end: the rest of the period is waited for, or the next request is made at once.
-    pub fn fade_goes_on(self, fade: Fade, since: Micros, at: Micros) -> Answer
-        ensures { λ r. ⌜ r ≡ packed (fadeGoesOn self fade since at) ⌝ }
+    pub fn fade_goes_on(self, fade: Fade, since: Micros, at: Micros) -> Effect
+        ensures { λ r. ⌜ outcomeOf r ≡ fadeGoesOn self fade since at ⌝ }
     {
-        let state = self.state;
-        let reports = self.reports;
         let remaining = fade.left();
         let next = fade.next(since, at);
         match next {
             Next::Wait(until) => {
                 let waiting = fade.waiting(remaining, until);
-                Answer::reporting(state.with_task(Task::Fade(waiting)), reports).push_wait(until)
+                self.then(Task::Fade(waiting), Then::Nothing, Last::W(until))
             }
             Next::Ask => {
                 let asking = fade.asking(remaining, at);
-                Answer::reporting(state.with_task(Task::Fade(asking)), reports).push(
-                    ActionKind::D,
-                    asking.counter as u64,
-                )
+                self.then(Task::Fade(asking), Then::Nothing, Last::D(asking.counter))
             }
         }
     }

@@ -1,12 +1,14 @@
 // Part 8: a move at a rate, from its command to its end (the source's move_command and move_transition).
 // Derived from level_control.rs of project-chip/rs-matter 43f61585a4 (see NOTICE), and changed.
-use crate::answer::Answer;
+use crate::answer::Effect;
 use crate::reports::Told;
 use crate::state::LevelControlState;
+use transitions::action_list::Last;
+use transitions::action_list::Then;
+use transitions::action_list::then_coupled;
 use transitions::commands::MoveRate;
 use transitions::commands::rate_in_force;
 use transitions::coupling::Coupling;
-use transitions::events::ActionKind;
 use transitions::events::DeviceAnswer;
 use transitions::events::MoveRequest;
 use transitions::fade::Next;
@@ -22,7 +24,7 @@ use transitions::tasks::next_move;
 use transitions::types::Level;
 use units::Micros;
 ghost use mathlib.Core.Path.{_≡_};
-ghost use Rattle.level_control.specs.Answer.{packed};
+ghost use Rattle.level_control.specs.Answer.{outcomeOf};
 ghost use Rattle.level_control.specs.Moves.{beginMove, leavesMin, moveAnswered, moveEnds, moveGoesOn, moveMissing, moveThen, moveTransition, rateBy};
 
 impl LevelControlState {
@@ -54,8 +56,8 @@ impl LevelControlState {
     }
 
     // Event 2, past the options: at its limit nothing happens, and a running task goes on.
-    pub fn begin_move(self, request: MoveRequest, at: Micros, on_off: bool) -> Answer
-        ensures { λ r. ⌜ r ≡ packed (beginMove self request at «on_off») ⌝ }
+    pub fn begin_move(self, request: MoveRequest, at: Micros, on_off: bool) -> Effect
+        ensures { λ r. ⌜ outcomeOf r ≡ beginMove self request at «on_off» ⌝ }
     {
         let level = self.current_level;
         let mode = request.mode;
@@ -65,7 +67,7 @@ impl LevelControlState {
             self.settings.min_level,
             self.settings.max_level,
         ) {
-            return Answer::accepted(self);
+            return self.doing(Last::Nothing);
         }
         let rate = self.rate_by(request);
         match rate {
@@ -77,7 +79,7 @@ impl LevelControlState {
                 };
                 self.quiet().move_goes_on(course, at, on_off)
             }
-            MoveRate::InvalidCommand => Answer::accepted(self),
+            MoveRate::InvalidCommand => self.doing(Last::Nothing),
         }
     }
 
@@ -89,29 +91,25 @@ impl LevelControlState {
         at: Micros,
         on_off: bool,
         level: u8,
-    ) -> Answer
-        ensures { λ r. ⌜ r ≡ packed (moveTransition self moving since at «on_off» level) ⌝ }
+    ) -> Effect
+        ensures { λ r. ⌜ outcomeOf r ≡ moveTransition self moving since at «on_off» level ⌝ }
     {
         let course = moving.course;
         let is_end = self.move_ends(moving.asked);
         let told = self.told_level(Level::Known(level), at, is_end);
         if is_end {
             let coupling = self.update_coupled_on_off(level, course.with_on_off, on_off);
-            let state = told.state;
-            let reports = told.reports;
-            return Answer::reporting(state.with_task(Task::Rest), reports).push_coupling(coupling);
+            return told.then(Task::Rest, then_coupled(coupling), Last::Nothing);
         }
         told.move_then(moving, since, at, on_off)
     }
 
     // A missing answer in a move: P, S, L, E.
-    pub fn move_missing(self, is_end: bool, at: Micros) -> Answer
-        ensures { λ r. ⌜ r ≡ packed (moveMissing self «is_end» at) ⌝ }
+    pub fn move_missing(self, is_end: bool, at: Micros) -> Effect
+        ensures { λ r. ⌜ outcomeOf r ≡ moveMissing self «is_end» at ⌝ }
     {
         let told = self.told_level(Level::Missing, at, is_end);
-        let state = told.state;
-        let reports = told.reports;
-        Answer::reporting(state.with_task(Task::Rest), reports).push(ActionKind::E, 15)
+        told.ends(Last::E(15))
     }
 
     pub fn move_answered(
@@ -121,8 +119,8 @@ impl LevelControlState {
         at: Micros,
         on_off: bool,
         answer: DeviceAnswer,
-    ) -> Answer
-        ensures { λ r. ⌜ r ≡ packed (moveAnswered self moving since at «on_off» answer) ⌝ }
+    ) -> Effect
+        ensures { λ r. ⌜ outcomeOf r ≡ moveAnswered self moving since at «on_off» answer ⌝ }
     {
         match answer {
             DeviceAnswer::Level(level) => self.move_transition(moving, since, at, on_off, level),
@@ -134,41 +132,34 @@ impl LevelControlState {
 
 impl Told {
     // The next request of a move, from the stored level.
-    pub fn move_goes_on(self, course: MoveCourse, at: Micros, on_off: bool) -> Answer
-        ensures { λ r. ⌜ r ≡ packed (moveGoesOn self course at «on_off») ⌝ }
+    pub fn move_goes_on(self, course: MoveCourse, at: Micros, on_off: bool) -> Effect
+        ensures { λ r. ⌜ outcomeOf r ≡ moveGoesOn self course at «on_off» ⌝ }
     {
         let state = self.state;
-        let reports = self.reports;
         let level = state.current_level;
         let mode = course.mode;
         let step = next_move(level, mode);
         match step {
-            MoveStep::Lost => {
-                Answer::reporting(state.with_task(Task::Rest), reports).push(ActionKind::E, 11)
-            }
-            MoveStep::Ends => Answer::reporting(state.with_task(Task::Rest), reports),
+            MoveStep::Lost => self.ends(Last::E(11)),
+            MoveStep::Ends => self.ends(Last::Nothing),
             MoveStep::Asks(asked) => {
                 let coupling = state.leaves_min(asked, course.with_on_off, on_off);
                 let moving = course.asking(asked, at);
-                Answer::reporting(state.with_task(Task::Move(moving)), reports)
-                    .push_coupling(coupling)
-                    .push(ActionKind::D, asked as u64)
+                self.then(Task::Move(moving), then_coupled(coupling), Last::D(asked))
             }
         }
     }
 
     // After an answer before the end: wait, or ask at once.
-    pub fn move_then(self, moving: Move, since: Micros, at: Micros, on_off: bool) -> Answer
-        ensures { λ r. ⌜ r ≡ packed (moveThen self moving since at «on_off») ⌝ }
+    pub fn move_then(self, moving: Move, since: Micros, at: Micros, on_off: bool) -> Effect
+        ensures { λ r. ⌜ outcomeOf r ≡ moveThen self moving since at «on_off» ⌝ }
     {
         let course = moving.course;
         let next = wait_or_ask(since, at, course.period);
         match next {
             Next::Wait(until) => {
-                let state = self.state;
-                let reports = self.reports;
                 let waiting = moving.waiting(until);
-                Answer::reporting(state.with_task(Task::Move(waiting)), reports).push_wait(until)
+                self.then(Task::Move(waiting), Then::Nothing, Last::W(until))
             }
             Next::Ask => self.move_goes_on(course, at, on_off),
         }

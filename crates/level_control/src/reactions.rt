@@ -1,9 +1,9 @@
 // Part 9: the reactions to on and off (the source's handle_on_off_state_change). Both are with-on-off: options never stop them.
 // Derived from level_control.rs of project-chip/rs-matter 43f61585a4 (see NOTICE), and changed.
-use crate::answer::Answer;
+use crate::answer::Effect;
 use crate::reports::Told;
 use crate::state::LevelControlState;
-use transitions::events::ActionKind;
+use transitions::action_list::Last;
 use transitions::events::DeviceAnswer;
 use transitions::tasks::OnReaction;
 use transitions::tasks::Task;
@@ -11,7 +11,7 @@ use transitions::types::Level;
 use units::Micros;
 use units::Tenths;
 ghost use mathlib.Core.Path.{_≡_};
-ghost use Rattle.level_control.specs.Answer.{packed};
+ghost use Rattle.level_control.specs.Answer.{outcomeOf};
 ghost use Rattle.level_control.specs.Reactions.{offTime, onAnswered, onGoesOn, onTime, switched, turnedOff, turnedOn};
 
 impl LevelControlState {
@@ -32,28 +32,26 @@ impl LevelControlState {
     }
 
     // On: the device goes to MIN first, also from MIN.
-    pub fn turned_on(self) -> Answer
-        ensures { λ r. ⌜ r ≡ packed (turnedOn self) ⌝ }
+    pub fn turned_on(self) -> Effect
+        ensures { λ r. ⌜ outcomeOf r ≡ turnedOn self ⌝ }
     {
         let before = self.current_level;
         let reaction = OnReaction { before: before };
-        Answer::accepted(self.with_task(Task::OnReaction(reaction))).push(
-            ActionKind::D,
-            self.settings.min_level as u64,
-        )
+        self.with_task(Task::OnReaction(reaction))
+            .doing(Last::D(self.settings.min_level))
     }
 
     // Off: a fade to MIN that restores.
-    pub fn turned_off(self, at: Micros, on_off: bool) -> Answer
-        ensures { λ r. ⌜ r ≡ packed (turnedOff self at «on_off») ⌝ }
+    pub fn turned_off(self, at: Micros, on_off: bool) -> Effect
+        ensures { λ r. ⌜ outcomeOf r ≡ turnedOff self at «on_off» ⌝ }
     {
         let fade = self.request_to(self.settings.min_level, self.off_time(), true, false, true);
         self.quiet().go_to(fade, at, on_off)
     }
 
     // Event 7. The event's own value decides here; C compares with the on/off value that the event carries.
-    pub fn switched(self, on: bool, at: Micros, on_off: bool) -> Answer
-        ensures { λ r. ⌜ r ≡ packed (switched self on at «on_off») ⌝ }
+    pub fn switched(self, on: bool, at: Micros, on_off: bool) -> Effect
+        ensures { λ r. ⌜ outcomeOf r ≡ switched self on at «on_off» ⌝ }
     {
         if on {
             return self.turned_on();
@@ -68,8 +66,8 @@ impl LevelControlState {
         at: Micros,
         on_off: bool,
         answer: DeviceAnswer,
-    ) -> Answer
-        ensures { λ r. ⌜ r ≡ packed (onAnswered self reaction at «on_off» answer) ⌝ }
+    ) -> Effect
+        ensures { λ r. ⌜ outcomeOf r ≡ onAnswered self reaction at «on_off» answer ⌝ }
     {
         match answer {
             DeviceAnswer::Level(level) => {
@@ -84,8 +82,8 @@ impl LevelControlState {
 
 impl Told {
     // To the on level, else to the level before.
-    pub fn on_goes_on(self, reaction: OnReaction, at: Micros, on_off: bool) -> Answer
-        ensures { λ r. ⌜ r ≡ packed (onGoesOn self reaction at «on_off») ⌝ }
+    pub fn on_goes_on(self, reaction: OnReaction, at: Micros, on_off: bool) -> Effect
+        ensures { λ r. ⌜ outcomeOf r ≡ onGoesOn self reaction at «on_off» ⌝ }
     {
         let state = self.state;
         let attributes = state.attributes;
@@ -97,10 +95,7 @@ impl Told {
                 let fade = state.request_to(level, state.on_time(), true, false, false);
                 self.go_to(fade, at, on_off)
             }
-            Level::Missing => {
-                let reports = self.reports;
-                Answer::reporting(state.with_task(Task::Rest), reports).push(ActionKind::E, 15)
-            }
+            Level::Missing => self.ends(Last::E(15)),
         }
     }
 }

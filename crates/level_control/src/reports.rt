@@ -1,18 +1,28 @@
 // Parts 2, 4 and 5: the remaining time, the answered level and the coupling, on the state.
 // Derived from level_control.rs of project-chip/rs-matter 43f61585a4 (see NOTICE), and changed.
-use crate::answer::Reports;
+use crate::answer::Effect;
 use crate::state::LevelControlState;
+use transitions::action_list::Actions;
+use transitions::action_list::Last;
+use transitions::action_list::Reports;
+use transitions::action_list::Then;
 use transitions::coupling::Coupling;
 use transitions::coupling::coupled_on_off;
 use transitions::current_level::current_level_due;
 use transitions::options::should_continue;
 use transitions::remaining_time::remaining_time_due;
+use transitions::tasks::Task;
 use transitions::types::Level;
 use transitions::types::OptionsBitmap;
 use units::Micros;
 use units::Millis;
 ghost use mathlib.Core.Path.{_≡_};
+ghost use mathlib.Core.List.{_++_};
 ghost use Rattle.units.specs.Units.{tenthsUp};
+ghost use Rattle.transitions.specs.ActionList.{lastOf, reportsOf, thenOf};
+ghost use Rattle.level_control.specs.Answer.{done, outcomeOf};
+ghost use Rattle.transitions.specs.declared.tasks.Task.the-variants as task;
+ghost use Rattle.level_control.specs.State.{withTask};
 ghost use Rattle.level_control.specs.Reports.{continues, coupledBy, noticedAt, setLevel, toldLevel, writeRemainingTime};
 
 // A state, and whether the attribute that was written in it is to be reported.
@@ -25,6 +35,33 @@ pub struct Reported {
 pub struct Told {
     pub state: LevelControlState,
     pub reports: Reports,
+}
+
+impl Told {
+    // What is told, and what follows: the task that runs then, and the other actions.
+    pub fn then(self, task: Task, then: Then, last: Last) -> Effect
+        ensures { λ r. ⌜ outcomeOf r ≡ done (withTask (self .state) task) (reportsOf (self .reports) ++ thenOf then ++ lastOf last) ⌝ }
+    {
+        let state = self.state;
+        let reports = self.reports;
+        let actions = Actions {
+            reports: reports,
+            then: then,
+            last: last,
+        };
+        Effect {
+            number: 0,
+            state: state.with_task(task),
+            actions: actions,
+        }
+    }
+
+    // What is told ends the task.
+    pub fn ends(self, last: Last) -> Effect
+        ensures { λ r. ⌜ outcomeOf r ≡ done (withTask (self .state) task.Rest) (reportsOf (self .reports) ++ lastOf last) ⌝ }
+    {
+        self.then(Task::Rest, Then::Nothing, last)
+    }
 }
 
 // The last-report time: now where a report is due.

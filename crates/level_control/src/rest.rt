@@ -1,10 +1,11 @@
 // Part 10: start-up, a device's update, the setters and the reset.
 // Derived from level_control.rs of project-chip/rs-matter 43f61585a4 (see NOTICE), and changed.
-use crate::answer::Answer;
-use crate::answer::Reports;
+use crate::answer::Effect;
+use crate::reports::Told;
 use crate::state::LevelControlState;
+use transitions::action_list::Last;
+use transitions::action_list::Reports;
 use transitions::coupling::Coupling;
-use transitions::events::ActionKind;
 use transitions::events::DeviceAnswer;
 use transitions::settings::Attributes;
 use transitions::tasks::Task;
@@ -14,7 +15,7 @@ use units::Micros;
 use units::Millis;
 use units::numbers;
 ghost use mathlib.Core.Path.{_≡_};
-ghost use Rattle.level_control.specs.Answer.{packed};
+ghost use Rattle.level_control.specs.Answer.{outcomeOf};
 ghost use Rattle.level_control.specs.Rest.{resetAll, startUpAnswered, startUpLevel, startedUp, storedStartUp, updated, withDefaultMoveRate, withOnLevel, withStartUp};
 
 impl LevelControlState {
@@ -35,42 +36,48 @@ impl LevelControlState {
     }
 
     // Event 0.
-    pub fn started_up(self) -> Answer
-        ensures { λ r. ⌜ r ≡ packed (startedUp self) ⌝ }
+    pub fn started_up(self) -> Effect
+        ensures { λ r. ⌜ outcomeOf r ≡ startedUp self ⌝ }
     {
         let wanted = self.start_up_level();
         match wanted {
-            Level::Known(level) => {
-                Answer::accepted(self.with_task(Task::StartUp)).push(ActionKind::D, level as u64)
-            }
-            Level::Missing => Answer::accepted(self),
+            Level::Known(level) => self.with_task(Task::StartUp).doing(Last::D(level)),
+            Level::Missing => self.doing(Last::Nothing),
         }
     }
 
     // An answer to start-up is stored, and told by P at most.
-    pub fn stored_start_up(self, level: Level) -> Answer
-        ensures { λ r. ⌜ r ≡ packed (storedStartUp self level) ⌝ }
+    pub fn stored_start_up(self, level: Level) -> Effect
+        ensures { λ r. ⌜ outcomeOf r ≡ storedStartUp self level ⌝ }
     {
         let old = self.current_level;
-        Answer::accepted(self.with_level(level).with_task(Task::Rest)).push_if(
-            !old.same(level),
-            ActionKind::P,
-        )
+        let reports = Reports {
+            stored: !old.same(level),
+            scene: false,
+            coupling: Coupling::NotSent,
+            level: false,
+            time: false,
+        };
+        let told = Told {
+            state: self.with_level(level),
+            reports: reports,
+        };
+        told.ends(Last::Nothing)
     }
 
-    pub fn start_up_answered(self, answer: DeviceAnswer) -> Answer
-        ensures { λ r. ⌜ r ≡ packed (startUpAnswered self answer) ⌝ }
+    pub fn start_up_answered(self, answer: DeviceAnswer) -> Effect
+        ensures { λ r. ⌜ outcomeOf r ≡ startUpAnswered self answer ⌝ }
     {
         match answer {
             DeviceAnswer::Level(level) => self.stored_start_up(Level::Known(level)),
             DeviceAnswer::Missing => self.stored_start_up(Level::Missing),
-            DeviceAnswer::Failed => Answer::accepted(self.with_task(Task::Rest)),
+            DeviceAnswer::Failed => self.with_task(Task::Rest).doing(Last::Nothing),
         }
     }
 
     // Event 9: the device's level changed under us. It counts as an end.
-    pub fn updated(self, level: u8, at: Micros) -> Answer
-        ensures { λ r. ⌜ r ≡ packed (updated self level at) ⌝ }
+    pub fn updated(self, level: u8, at: Micros) -> Effect
+        ensures { λ r. ⌜ outcomeOf r ≡ updated self level at ⌝ }
     {
         let old = self.current_level;
         let stored = self.set_level(Level::Known(level), at, true);
@@ -84,46 +91,50 @@ impl LevelControlState {
             level: stored.due,
             time: written.due,
         };
-        Answer::reporting(next.with_task(Task::Rest), reports)
+        let told = Told {
+            state: next,
+            reports: reports,
+        };
+        told.ends(Last::Nothing)
     }
 
-    pub fn with_on_level(self, on_level: Level) -> Answer
-        ensures { λ r. ⌜ r ≡ packed (withOnLevel self «on_level») ⌝ }
+    pub fn with_on_level(self, on_level: Level) -> Effect
+        ensures { λ r. ⌜ outcomeOf r ≡ withOnLevel self «on_level» ⌝ }
     {
         let attributes = self.attributes;
         let next = Attributes {
             on_level,
             ..attributes
         };
-        Answer::accepted(self.with_attributes(next)).push(ActionKind::K, 0)
+        self.with_attributes(next).doing(Last::K)
     }
 
-    pub fn with_default_move_rate(self, default_move_rate: Rate) -> Answer
-        ensures { λ r. ⌜ r ≡ packed (withDefaultMoveRate self «default_move_rate») ⌝ }
+    pub fn with_default_move_rate(self, default_move_rate: Rate) -> Effect
+        ensures { λ r. ⌜ outcomeOf r ≡ withDefaultMoveRate self «default_move_rate» ⌝ }
     {
         let attributes = self.attributes;
         let next = Attributes {
             default_move_rate,
             ..attributes
         };
-        Answer::accepted(self.with_attributes(next)).push(ActionKind::K, 0)
+        self.with_attributes(next).doing(Last::K)
     }
 
-    pub fn with_start_up(self, start_up_current_level: Level) -> Answer
-        ensures { λ r. ⌜ r ≡ packed (withStartUp self «start_up_current_level») ⌝ }
+    pub fn with_start_up(self, start_up_current_level: Level) -> Effect
+        ensures { λ r. ⌜ outcomeOf r ≡ withStartUp self «start_up_current_level» ⌝ }
     {
         let attributes = self.attributes;
         let next = Attributes {
             start_up_current_level,
             ..attributes
         };
-        Answer::accepted(self.with_attributes(next)).push(ActionKind::K, 0)
+        self.with_attributes(next).doing(Last::K)
     }
 
     // Event 14.
-    pub fn reset_all(self) -> Answer
-        ensures { λ r. ⌜ r ≡ packed (resetAll self) ⌝ }
+    pub fn reset_all(self) -> Effect
+        ensures { λ r. ⌜ outcomeOf r ≡ resetAll self ⌝ }
     {
-        Answer::accepted(self.put_back()).push(ActionKind::X, 0)
+        self.put_back().doing(Last::X)
     }
 }

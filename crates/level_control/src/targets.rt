@@ -1,14 +1,18 @@
 // Part 6: a move to a target, by a command, a step, a scene or a reaction; and stop.
 // Derived from level_control.rs of project-chip/rs-matter 43f61585a4 (see NOTICE), and changed.
-use crate::answer::Answer;
-use crate::answer::Reports;
+use crate::answer::Effect;
 use crate::reports::Told;
 use crate::state::LevelControlState;
+use transitions::action_list::Last;
+use transitions::action_list::Reports;
+use transitions::action_list::Then;
+use transitions::action_list::last_reported;
+use transitions::action_list::then_coupled;
 use transitions::commands::StepTime;
 use transitions::commands::step_level;
 use transitions::commands::step_time;
 use transitions::commands::target_level;
-use transitions::events::ActionKind;
+use transitions::coupling::Coupling;
 use transitions::events::MoveToLevelRequest;
 use transitions::events::SceneRequest;
 use transitions::events::StepRequest;
@@ -22,7 +26,7 @@ use units::Millis;
 use units::Tenths;
 use units::numbers;
 ghost use mathlib.Core.Path.{_≡_};
-ghost use Rattle.level_control.specs.Answer.{packed};
+ghost use Rattle.level_control.specs.Answer.{outcomeOf};
 ghost use Rattle.level_control.specs.Targets.{goTo, movedToLevel, quiet, recalled, requestTo, stepped, steppedLevel, steppedTime, stopped};
 
 impl LevelControlState {
@@ -60,11 +64,10 @@ impl LevelControlState {
 
 impl Told {
     // Ends the running task; then the target is reached, or there is no level to fade from, or a fade starts.
-    pub fn go_to(self, request: FadeRequest, at: Micros, on_off: bool) -> Answer
-        ensures { λ r. ⌜ r ≡ packed (goTo self request at «on_off») ⌝ }
+    pub fn go_to(self, request: FadeRequest, at: Micros, on_off: bool) -> Effect
+        ensures { λ r. ⌜ outcomeOf r ≡ goTo self request at «on_off» ⌝ }
     {
         let state = self.state;
-        let reports = self.reports;
         let level = state.current_level;
         let begin = begin_fade(level, request, at);
         match begin {
@@ -77,26 +80,20 @@ impl Told {
                 let attributes = state.attributes;
                 let on_level = attributes.on_level;
                 let restored = request.restores & on_level.is_missing();
-                Answer::reporting(state.with_task(Task::Rest), reports)
-                    .push_coupling(coupling)
-                    .push_if(restored, ActionKind::L)
+                self.then(Task::Rest, then_coupled(coupling), last_reported(restored))
             }
-            Begin::Lost => Answer::reporting(state.with_task(Task::Rest), reports).push(
-                ActionKind::E,
-                11,
-            ),
-            Begin::Starts(fade) => Answer::reporting(
-                state.with_task(Task::Fade(fade)),
-                reports,
-            ).push(ActionKind::D, fade.counter as u64),
+            Begin::Lost => self.ends(Last::E(11)),
+            Begin::Starts(fade) => {
+                self.then(Task::Fade(fade), Then::Nothing, Last::D(fade.counter))
+            }
         }
     }
 }
 
 impl LevelControlState {
     // Event 1, past the options. A missing time is 0.
-    pub fn moved_to_level(self, request: MoveToLevelRequest, at: Micros, on_off: bool) -> Answer
-        ensures { λ r. ⌜ r ≡ packed (movedToLevel self request at «on_off») ⌝ }
+    pub fn moved_to_level(self, request: MoveToLevelRequest, at: Micros, on_off: bool) -> Effect
+        ensures { λ r. ⌜ outcomeOf r ≡ movedToLevel self request at «on_off» ⌝ }
     {
         let given = request.transition_time;
         let time = given.or_else(Tenths(0));
@@ -128,8 +125,8 @@ impl LevelControlState {
     }
 
     // Event 3, past its refusals: the step's level is a target like any other.
-    pub fn stepped(self, request: StepRequest, at: Micros, on_off: bool) -> Answer
-        ensures { λ r. ⌜ r ≡ packed (stepped self request at «on_off») ⌝ }
+    pub fn stepped(self, request: StepRequest, at: Micros, on_off: bool) -> Effect
+        ensures { λ r. ⌜ outcomeOf r ≡ stepped self request at «on_off» ⌝ }
     {
         let current = self.current_level;
         match current {
@@ -141,16 +138,16 @@ impl LevelControlState {
                         let fade = self.request_to(target, time, request.with_on_off, false, false);
                         self.quiet().go_to(fade, at, on_off)
                     }
-                    StepTime::Overflow => Answer::accepted(self),
+                    StepTime::Overflow => self.doing(Last::Nothing),
                 }
             }
-            Level::Missing => Answer::accepted(self),
+            Level::Missing => self.doing(Last::Nothing),
         }
     }
 
     // Event 8, past the options: a scene without a value does nothing.
-    pub fn recalled(self, request: SceneRequest, at: Micros, on_off: bool) -> Answer
-        ensures { λ r. ⌜ r ≡ packed (recalled self request at «on_off») ⌝ }
+    pub fn recalled(self, request: SceneRequest, at: Micros, on_off: bool) -> Effect
+        ensures { λ r. ⌜ outcomeOf r ≡ recalled self request at «on_off» ⌝ }
     {
         let decided = request.level;
         match decided {
@@ -159,16 +156,27 @@ impl LevelControlState {
                 let fade = self.request_to(level, time, false, true, false);
                 self.quiet().go_to(fade, at, on_off)
             }
-            Level::Missing => Answer::accepted(self),
+            Level::Missing => self.doing(Last::Nothing),
         }
     }
 
     // Events 4, past the options, and 10: the task ends, and the remaining time 0 is written, not as a start.
-    pub fn stopped(self) -> Answer
-        ensures { λ r. ⌜ r ≡ packed (stopped self) ⌝ }
+    pub fn stopped(self) -> Effect
+        ensures { λ r. ⌜ outcomeOf r ≡ stopped self ⌝ }
     {
         let written = self.write_remaining_time_quietly(Millis(0), false);
         let state = written.state;
-        Answer::accepted(state.with_task(Task::Rest)).push_if(written.due, ActionKind::R)
+        let reports = Reports {
+            stored: false,
+            scene: false,
+            coupling: Coupling::NotSent,
+            level: false,
+            time: written.due,
+        };
+        let told = Told {
+            state: state,
+            reports: reports,
+        };
+        told.ends(Last::Nothing)
     }
 }

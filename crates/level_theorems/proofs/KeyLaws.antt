@@ -2,7 +2,7 @@
 use mathlib.Core.Path.{_≡_, refl}
 use mathlib.Core.List.{List, [], _∷_}
 use Rattle.units.specs.Units.{scaledFloor}
-use Rattle.level_control.specs.Answer.{reportsOf}
+use Rattle.transitions.specs.ActionList.{reportsOf}
 use Rattle.level_control.specs.Causes.{commandTestsOf, moveToLevelTests, timeRefused, turnTests}
 use Rattle.level_control.specs.Events.{answered, eventOf, numberOf, run}
 use Rattle.level_control.specs.Fades.{fadeAnswered, fadeCoupling, fadeEnded, fadeGoesOn, fadeStored, fadeTold, moveToLevelTransition}

@@ -14,9 +14,9 @@ use Rattle.transitions.specs.declared.events.Action.{Action}
 use Rattle.transitions.specs.declared.events.ActionKind.{ActionKind}
 use Rattle.transitions.specs.declared.events.ActionKind.the-variants.{P, S, C, L, R}
 use Rattle.transitions.proofs.Booleans.{and-first, and-second}
-use Rattle.level_control.specs.Answer.{reportsOf}
+use Rattle.transitions.specs.ActionList.{reportsOf}
 use Rattle.level_theorems.specs.Orders.{kindsOf, LeavesOut, end, takes, leaves, OneOf, this, later}
-use Rattle.level_control.specs.declared.answer.Reports.{Reports}
+use Rattle.transitions.specs.declared.«action_list».Reports.{Reports}
 
 -- actions whose kinds a pattern leads to
 pub record Fits (pattern : List ActionKind) (l : List Action) : Type 0 where

@@ -12,13 +12,11 @@ use Rattle.units.specs.declared.Micros.{Micros}
 use Rattle.transitions.specs.Events.{event}
 use Rattle.transitions.specs.Fade.{waitOrAsk}
 use Rattle.transitions.specs.Tasks.{taskOpen, phaseOpen, fadeLast, fadeFrom, fadeAsking, fadeWaiting, levelToRestore}
-use Rattle.transitions.specs.Types.{isMissing}
 use Rattle.transitions.specs.declared.events.DeviceAnswer.the-variants as device
 use Rattle.transitions.specs.declared.events.Event.{Event}
 use Rattle.transitions.specs.declared.events.EventKind.the-variants as kind
 use Rattle.transitions.specs.declared.fade.Next.the-variants as next
 use Rattle.transitions.specs.declared.tasks.AfterFade.{AfterFade}
-use Rattle.transitions.specs.declared.tasks.AfterFade.the-variants.{Stay, Restore}
 use Rattle.transitions.specs.declared.tasks.Fade.{Fade}
 use Rattle.transitions.specs.declared.tasks.Phase.{Phase}
 use Rattle.transitions.specs.declared.tasks.Phase.the-variants.{Asked, Waiting}
@@ -27,7 +25,7 @@ use Rattle.transitions.specs.declared.tasks.Task.the-variants as task
 use Rattle.transitions.specs.declared.types.Level.{Level}
 use Rattle.transitions.specs.declared.types.Level.the-variants.{Known, Missing}
 use Rattle.level_control.specs.State.{accept, withTask, withLevel, withRemainingTime, withAnswered}
-use Rattle.level_control.specs.Answer.{Outcome, done, reportsOf}
+use Rattle.level_control.specs.Answer.{Outcome}
 use Rattle.level_control.specs.Reports.{writeRemainingTime, setLevel}
 use Rattle.level_control.specs.Fades.{fadeStored, fadeTold, restored, fadeEndedBy, fadeEnded, fadeThen, fadeGoesOn, moveToLevelTransition, fadeAnswered, fadeWoken}
 use Rattle.level_control.specs.Causes.{latest}

@@ -1,12 +1,12 @@
 -- The end of off, start-up, Stop and Move, and the Matter document. Assumes nothing.
-use Prim.Native.Nat.{ℕ, _+_, _-_, _≤_, _<_, min, max}
+use Prim.Native.Nat.{ℕ, _+_, _-_, _≤_}
 use mathlib.Core.Bool.{Bool, true, false, cond, not, true≢false}
 use mathlib.Core.Path.{_≡_, refl, sym, ap, subst, _∙_}
 use mathlib.Core.Logic.{_⊎_, inl, inr}
 use mathlib.Core.List.{List, [], _∷_, _++_}
 use native.Mathlib.Omega.{arith}
 use borrow.Author.Tests.{lt-ltb, eqb-true, eqb-false}
-use lib.Dec.{ltb, eqb}
+use lib.Dec.{eqb}
 use Rattle.units.specs.Numbers.{heldTo}
 use Rattle.units.specs.declared.Micros.{Micros}
 use Rattle.transitions.specs.Commands.{isInvalid}
@@ -37,7 +37,8 @@ use Rattle.transitions.specs.declared.types.Mode.{Mode}
 use Rattle.transitions.specs.declared.types.Mode.the-variants.{Up, Down}
 use Rattle.transitions.specs.declared.types.OptionsBitmap.{OptionsBitmap}
 use Rattle.level_control.specs.State.{accept, withTask, withLevel, withRemainingTime, withAnswered}
-use Rattle.level_control.specs.Answer.{Outcome, done, reportsOf}
+use Rattle.transitions.specs.ActionList.{reportsOf}
+use Rattle.level_control.specs.Answer.{Outcome, done}
 use Rattle.level_control.specs.Causes.{turnTests, moveTests, stopTests, commandTestsOf}
 use Rattle.level_control.specs.Events.{fadeAnsweredIn, answeredIn, answered, run, numberOf, eventOf}
 use Rattle.level_control.specs.Fades.{restored, fadeEndedBy, fadeEnded, fadeGoesOn, fadeStored, fadeTold, moveToLevelTransition, fadeAnswered}

@@ -1,6 +1,5 @@
 -- The disagreements with the Matter document, computed. Assumes nothing.
 use mathlib.Core.Path.{refl}
-use mathlib.Core.Bool.{Bool}
 use Rattle.units.specs.Units.{scaledFloor}
 use Rattle.transitions.specs.Causes.{firstCause}
 use Rattle.transitions.specs.Commands.{targetLevel, stepLevel, stepTime, rateInForce}
@@ -13,15 +12,15 @@ use Rattle.transitions.specs.RemainingTime.{remainingTimeDue}
 use Rattle.transitions.specs.Tasks.{atLimit, nextMove, fadeAsking, fadeWaiting, fadeFrom, levelToRestore, beginFade}
 use Rattle.transitions.specs.Types.{sameLevel, levelOr, timeOr}
 use Rattle.level_control.specs.State.{newState, accept, withTask, withLevel, withRemainingTime, withAnswered}
-use Rattle.level_control.specs.Answer.{Outcome, reportsOf}
+use Rattle.transitions.specs.ActionList.{reportsOf}
 use Rattle.level_control.specs.Reports.{writeRemainingTime, levelDue, setLevel, toldLevel, coupledBy, continues}
 use Rattle.level_control.specs.Targets.{goTo, movedToLevel, steppedLevel, steppedTime, stepped, recalled}
 use Rattle.level_control.specs.Fades.{fadeCoupling, fadeStored, fadeTold, restored, fadeEnded, fadeGoesOn, moveToLevelTransition, fadeAnswered, fadeWoken}
 use Rattle.level_control.specs.Reactions.{onTime, offTime, turnedOn, onGoesOn, onAnswered, turnedOff, switched}
 use Rattle.level_control.specs.Causes.{timeRefused, turnTests, moveToLevelTests, moveTests, stepOverflows, stepTests, sceneTests, levelTests, commandTestsOf}
 use Rattle.level_control.specs.Events.{answered, woken, run, numberOf, eventOf}
-use Rattle.level_control.specs.Run.{Request, next, started, play, onlyOnward}
-use Rattle.level_control.specs.Starts.{startOf, onStart, distance}
+use Rattle.level_control.specs.Run.{next}
+use Rattle.level_control.specs.Starts.{startOf, onStart}
 use Rattle.level_control.specs.Moves.{leavesMin, moveEnds, rateBy, moveGoesOn, beginMove, moveThen, moveTransition, moveAnswered}
 use Rattle.level_control.specs.Rest.{startUpLevel, startedUp}
 use Rattle.transitions.specs.Moves.{movePeriod}

@@ -19,7 +19,7 @@ use Rattle.transitions.specs.RemainingTime.{remainingTimeDue}
 use Rattle.transitions.specs.Tasks.{fadeAsking, fadeWaiting, fadeFrom, levelToRestore, beginFade}
 use Rattle.transitions.specs.Types.{sameLevel, levelOr, timeOr}
 use Rattle.level_control.specs.State.{newState, accept, withTask, withLevel, withRemainingTime, withAnswered}
-use Rattle.level_control.specs.Answer.{reportsOf}
+use Rattle.transitions.specs.ActionList.{reportsOf}
 use Rattle.level_control.specs.Reports.{writeRemainingTime, levelDue, setLevel, toldLevel, coupledBy, continues}
 use Rattle.level_control.specs.Targets.{goTo, movedToLevel, steppedLevel, steppedTime, stepped, recalled}
 use Rattle.level_control.specs.Fades.{fadeCoupling, fadeStored, fadeTold, restored, fadeEnded, fadeGoesOn, moveToLevelTransition, fadeAnswered, fadeWoken}

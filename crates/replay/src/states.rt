@@ -1,11 +1,11 @@
 // The sheet of a play with the whole state after each line (oracle/README.md, "A port").
-use level_control::answer::Answer;
+use level_control::answer::Effect;
 use level_control::state::LevelControlState;
 use libc::STDOUT_FILENO;
 use records::settings::SettingsRead;
 use records::settings::read_settings;
 use sheet::key::key_sheet;
-use sheet::lines::put_answer;
+use sheet::lines::put_effect;
 use sheet::lines::record_event;
 use sheet::play::length_ok;
 use text::front;
@@ -64,11 +64,11 @@ fn print_state(state: LevelControlState) {
     io::write_all(STDOUT_FILENO, b"\n");
 }
 
-fn print_answer(index: u64, answer: Answer) {
+fn print_effect(index: u64, effect: Effect) {
     let mut line = [0u8; 189];
-    let k = front(put_answer(&mut line, 0, index, answer), &line);
+    let k = front(put_effect(&mut line, 0, index, effect), &line);
     io::write_all(STDOUT_FILENO, &line[..k]);
-    print_state(answer.state);
+    print_state(effect.state);
 }
 
 fn print_events(events: &[u8], start: LevelControlState) {
@@ -77,9 +77,9 @@ fn print_events(events: &[u8], start: LevelControlState) {
     let mut index = 1;
     let mut left = events.len() / 20;
     while 0 < left {
-        let answer = record_event(state, &events[from..from + 20]);
-        print_answer(index, answer);
-        state = answer.state;
+        let effect = record_event(state, &events[from..from + 20]);
+        print_effect(index, effect);
+        state = effect.state;
         from += 20;
         index += 1;
         left -= 1;

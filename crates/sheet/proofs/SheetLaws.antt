@@ -1,53 +1,23 @@
--- Laws of the sheet: one event more, and a text that fits. Assumes nothing.
-use Prim.Native.Nat.{ℕ, zero, suc, _+_, _-_, _<_, _≤_, min, zero-le}
+-- Laws of the sheet: one event more, a line made apart, and a text that fits. Assumes nothing.
+use Prim.Native.Nat.{ℕ, suc, _+_, _-_, _/_, _<_, _≤_, min}
 use mathlib.Core.Path.{_≡_, refl, sym, ap, _∙_}
-use mathlib.Core.List.{List, [], _++_}
+use mathlib.Core.List.{List, [], _∷_, _++_, append-nil}
 use mathlib.Core.Bool.{true, false}
 use native.Mathlib.Omega.{arith}
 use native.Mathlib.Nat.{zero-add}
 use borrow.Author.Tests.{lt-ltb, le-ltb, le-leb, lt-leb}
-use lib.ListN.{length, take, drop, length-drop}
-use lib.Seq.{drop-drop, sets, sets-eq, take-length}
-use Rattle.transitions.specs.declared.events.Action.{Action}
+use lib.ListN.{length, take, drop, length-append, length-drop}
+use lib.Seq.{drop-drop, length-take-le, sets, sets-eq, take-append-seam, take-length, take-take}
 use Rattle.text.specs.Text.{Wrote, most}
-use Rattle.text.specs.Line.{lineOf}
 use Rattle.text.proofs.WriteLaws.{then, none-wrote}
 use Rattle.text.proofs.DigitLaws.{by-test}
-use Rattle.records.specs.Events.{eventRead}
-use Rattle.records.specs.declared.events.EventRead.{EventRead}
-use Rattle.records.specs.declared.events.EventRead.the-variants as read
-use Rattle.level_control.specs.Answer.{packed, refused}
-use Rattle.level_control.specs.declared.answer.Answer.{Answer}
+use Rattle.level_control.specs.Answer.{Outcome, outcomeOf}
+use Rattle.level_control.specs.declared.answer.Effect.{Effect}
 use Rattle.level_control.specs.declared.state.LevelControlState.{LevelControlState}
-use Rattle.level_control.proofs.AnswerLaws.{unpacked}
-use Rattle.level_theorems.proofs.Demand1Laws.{demand-1}
-use Rattle.sheet.specs.Lines.{readOutcome, recordOutcome, recordsOf, outcomesOf, outcomeLine, answerLine, linesFrom, textOf}
+use Rattle.sheet.specs.Lines.{recordOutcome, recordsOf, outcomesOf, stateAfter, outcomeLine, linesFrom}
 use Rattle.sheet.specs.Play.{fitted, lengthOk}
-use Rattle.sheet.specs.declared.play.Played.{Played}
 use Rattle.sheet.specs.declared.play.Played.the-variants.{Text, Refused}
 use Rattle.sheet.specs.declared.play.Refusal.the-variants.{TextTooLong}
-
--- the slots in use are the actions, of a damaged record too
-slots-of : (s : LevelControlState) (r : EventRead) → take (packed (readOutcome s r) .count) (packed (readOutcome s r) .actions) ≡ readOutcome s r .actions
-slots-of s (read.Event e) = demand-1 .slots-are-actions s e
-slots-of s read.RecordWrong = unpacked (refused s 1) zero-le
-
-slots : (s : LevelControlState) (bytes : List ℕ)
-    → take (packed (recordOutcome s bytes) .count) (packed (recordOutcome s bytes) .actions) ≡ recordOutcome s bytes .actions
-unfolding recordOutcome
-slots s bytes = slots-of s (eventRead bytes)
-
-line-is : (s : LevelControlState) (bytes : List ℕ) (index : ℕ) (a : Answer)
-    → a ≡ packed (recordOutcome s bytes) → answerLine index a ≡ outcomeLine index (recordOutcome s bytes)
-unfolding packed
-line-is s bytes index a e =
-    let o = recordOutcome s bytes in
-    ap (λ (b : Answer). answerLine index b) e
-    ∙ ap (λ (l : List Action). lineOf index (o .number) (o .state .«current_level») (o .state .«remaining_time») l) (slots s bytes)
-
-state-is : (s : LevelControlState) (bytes : List ℕ) (a : Answer) → a ≡ packed (recordOutcome s bytes) → a .state ≡ recordOutcome s bytes .state
-unfolding packed
-state-is s bytes a e = ap (λ (b : Answer). b .state) e
 
 lines-suc : (k index : ℕ) (s : LevelControlState) (l : List ℕ)
     → linesFrom index (outcomesOf s (recordsOf (suc k) l))
@@ -61,24 +31,73 @@ twenty from = omega arith
 one-less : (left : ℕ) → 0 < left → left ≡ suc (left - 1)
 one-less left h = omega arith
 
--- one turn of the loop: the first of the lines that are left, and then the others
-pub turn-more : (left index from : ℕ) (s : LevelControlState) (events : List ℕ) (a : Answer) {out mid new : List ℕ} {at q r : ℕ}
+-- one turn of a loop: the first of the lines that are left, and then the others
+pub turn-more : (left index from : ℕ) (s t : LevelControlState) (events line : List ℕ) {out mid new : List ℕ} {at q r : ℕ}
     → length out ≤ most → 0 < left
-    → a ≡ packed (recordOutcome s (take (from + 20 - from) (drop from events)))
-    → Wrote out at (answerLine index a) mid q
-    → Wrote mid q (linesFrom (index + 1) (outcomesOf (a .state) (recordsOf (left - 1) (drop (from + 20) events)))) new r
+    → line ≡ outcomeLine index (recordOutcome s (take 20 (drop from events))) → t ≡ recordOutcome s (take 20 (drop from events)) .state
+    → Wrote out at line mid q
+    → Wrote mid q (linesFrom (index + 1) (outcomesOf t (recordsOf (left - 1) (drop (from + 20) events)))) new r
     → Wrote out at (linesFrom index (outcomesOf s (recordsOf left (drop from events)))) new r
-turn-more left index from s events a {out} {mid} {new} {at} {q} {r} o h ea w v =
-    let bytes = take 20 (drop from events) in
-    let given : a ≡ packed (recordOutcome s bytes) = ea ∙ ap (λ (k : ℕ). packed (recordOutcome s (take k (drop from events)))) (twenty from) in
-    let others : LevelControlState → List ℕ → List ℕ = λ t l. linesFrom (index + 1) (outcomesOf t (recordsOf (left - 1) l)) in
-    let e : linesFrom index (outcomesOf s (recordsOf left (drop from events))) ≡ answerLine index a ++ others (a .state) (drop (from + 20) events)
+turn-more left index from s t events line o h el et w v =
+    let others : LevelControlState → List ℕ → List ℕ = λ u l. linesFrom (index + 1) (outcomesOf u (recordsOf (left - 1) l)) in
+    let e : linesFrom index (outcomesOf s (recordsOf left (drop from events))) ≡ line ++ others t (drop (from + 20) events)
     = ap (λ (k : ℕ). linesFrom index (outcomesOf s (recordsOf k (drop from events)))) (one-less left h)
     ∙ lines-suc (left - 1) index s (drop from events)
-    ∙ ap (λ (l : List ℕ). l ++ others (recordOutcome s bytes .state) (drop 20 (drop from events))) (sym (line-is s bytes index a given))
-    ∙ ap (λ (t : LevelControlState). answerLine index a ++ others t (drop 20 (drop from events))) (sym (state-is s bytes a given))
-    ∙ ap (λ (l : List ℕ). answerLine index a ++ others (a .state) l) (drop-drop 20 from events) in
+    ∙ ap (λ (l : List ℕ). l ++ others (recordOutcome s (take 20 (drop from events)) .state) (drop 20 (drop from events))) (sym el)
+    ∙ ap (λ (u : LevelControlState). line ++ others u (drop 20 (drop from events))) (sym et)
+    ∙ ap (λ (l : List ℕ). line ++ others t l) (drop-drop 20 from events) in
     rw e (then o w v)
+
+after-suc : (k : ℕ) (s : LevelControlState) (l : List ℕ) → stateAfter s (recordsOf (suc k) l) ≡ stateAfter (recordOutcome s (take 20 l) .state) (recordsOf k (drop 20 l))
+unfolding stateAfter recordsOf
+after-suc k s l = refl
+
+pub state-more : (left from : ℕ) (s t : LevelControlState) (events : List ℕ) → 0 < left → t ≡ recordOutcome s (take 20 (drop from events)) .state
+    → stateAfter s (recordsOf left (drop from events)) ≡ stateAfter t (recordsOf (left - 1) (drop (from + 20) events))
+state-more left from s t events h et =
+    ap (λ (k : ℕ). stateAfter s (recordsOf k (drop from events))) (one-less left h)
+    ∙ after-suc (left - 1) s (drop from events)
+    ∙ ap (λ (u : LevelControlState). stateAfter u (recordsOf (left - 1) (drop 20 (drop from events)))) (sym et)
+    ∙ ap (λ (l : List ℕ). stateAfter t (recordsOf (left - 1) l)) (drop-drop 20 from events)
+
+-- what a record gives, as the loop has it
+pub record-played : (s : LevelControlState) (from : ℕ) (events : List ℕ) (e : Effect) → outcomeOf e ≡ recordOutcome s (take (from + 20 - from) (drop from events))
+    → outcomeOf e ≡ recordOutcome s (take 20 (drop from events))
+record-played s from events e g = g ∙ ap (λ (k : ℕ). recordOutcome s (take k (drop from events))) (twenty from)
+
+pub state-of : (e : Effect) (o : Outcome) → outcomeOf e ≡ o → e .state ≡ o .state
+unfolding outcomeOf
+state-of e o g = ap (λ (x : Outcome). x .state) g
+
+-- A part of one record: its length, its line, and the state that it leaves.
+module _ (from : ℕ) (events : List ℕ) (h : from + 20 ≤ length events) where
+  pub part-length : length (take (from + 20 - from) (drop from events)) ≡ 20
+  part-length = rw (twenty from) (length-take-le 20 (drop from events) (rw (length-drop from events) (omega arith)))
+
+  one-record : recordsOf (length (take (from + 20 - from) (drop from events)) / 20) (take (from + 20 - from) (drop from events)) ≡ take 20 (drop from events) ∷ []
+  unfolding recordsOf
+  one-record = rw (part-length, twenty from) (ap (λ (x : List ℕ). x ∷ []) (take-take 20 20 (drop from events) (omega arith)))
+
+  pub one-line : (index : ℕ) (s : LevelControlState)
+      → linesFrom index (outcomesOf s (recordsOf (length (take (from + 20 - from) (drop from events)) / 20) (take (from + 20 - from) (drop from events))))
+      ≡ outcomeLine index (recordOutcome s (take 20 (drop from events)))
+  unfolding linesFrom outcomesOf
+  one-line index s = rw one-record (append-nil _)
+
+  pub one-state : (s : LevelControlState)
+      → stateAfter s (recordsOf (length (take (from + 20 - from) (drop from events)) / 20) (take (from + 20 - from) (drop from events)))
+      ≡ recordOutcome s (take 20 (drop from events)) .state
+  unfolding stateAfter
+  one-state s = rw one-record refl
+
+-- the bytes of a line that was made apart
+pub made-apart : (text : List ℕ) {old line : List ℕ} {n end : ℕ}
+    → length old < most → length text ≤ length old → Wrote old 0 text line n → end ≡ min n (length line) → take end line ≡ text
+made-apart text {old} {line} {n} {end} o h w e =
+    let stands : line ≡ text ++ drop (length text) old = w .bytes ∙ sets-eq text old 0 (omega arith) ∙ rw zero-add in
+    let long : length line ≡ length text + length (drop (length text) old) = ap length stands ∙ length-append text (drop (length text) old) in
+    let whole : end ≡ length text = omega (arith, w .next) in
+    rw (whole, stands) (take-append-seam text (drop (length text) old))
 
 -- no line is left
 pub none-left : (k index : ℕ) (s : LevelControlState) (l out : List ℕ) (at : ℕ)
@@ -87,6 +106,13 @@ unfolding linesFrom outcomesOf recordsOf
 none-left k index s l out at h a =
     let e : k ≡ 0 = omega arith in
     rw e (none-wrote a)
+
+-- and the state stays
+pub none-after : (k : ℕ) (s : LevelControlState) (l : List ℕ) → k ≤ 0 → stateAfter s (recordsOf k l) ≡ s
+unfolding stateAfter recordsOf
+none-after k s l h =
+    let e : k ≡ 0 = omega arith in
+    rw e refl
 
 pub never : false ≡ true → ⊥
 never e = let z : _≡_ {A = ℕ} 0 1 = cc in omega arith

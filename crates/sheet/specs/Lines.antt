@@ -8,7 +8,6 @@ use Rattle.records.specs.declared.events.EventRead.{EventRead}
 use Rattle.records.specs.declared.events.EventRead.the-variants as read
 use Rattle.level_control.specs.Answer.{Outcome, refused}
 use Rattle.level_control.specs.Events.{eventOf}
-use Rattle.level_control.specs.declared.answer.Answer.{Answer}
 use Rattle.level_control.specs.declared.state.LevelControlState.{LevelControlState}
 
 -- "a bad event record is one refused line", with number 1
@@ -29,12 +28,13 @@ unfoldable pub outcomesOf : LevelControlState → List (List ℕ) → List Outco
 outcomesOf s [] = []
 outcomesOf s (bytes ∷ more) = recordOutcome s bytes ∷ outcomesOf (recordOutcome s bytes .state) more
 
+-- and the state that the last one left
+unfoldable pub stateAfter : LevelControlState → List (List ℕ) → LevelControlState
+stateAfter s [] = s
+stateAfter s (bytes ∷ more) = stateAfter (recordOutcome s bytes .state) more
+
 abbrev pub outcomeLine : ℕ → Outcome → List ℕ
 outcomeLine index o = lineOf index (o .number) (o .state .«current_level») (o .state .«remaining_time») (o .actions)
-
--- the line of an answer as the code holds it: the first `count` actions
-abbrev pub answerLine : ℕ → Answer → List ℕ
-answerLine index a = lineOf index (a .number) (a .state .«current_level») (a .state .«remaining_time») (take (a .count) (a .actions))
 
 -- their lines, the first of which has this index
 unfoldable pub linesFrom : ℕ → List Outcome → List ℕ

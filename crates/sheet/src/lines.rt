@@ -1,38 +1,44 @@
 // One line for each event of a play, each event in the state that the one before it left.
-use level_control::answer::Answer;
+use level_control::answer::Effect;
 use level_control::state::LevelControlState;
 use records::events::EventRead;
 use records::events::read_event;
+use text::front;
 use text::line::put_line;
+use text::put_all;
 ghost use mathlib.Core.Path.{_≡_};
 ghost use Prim.Native.Nat.{_+_, _*_, _/_, _≤_};
 ghost use lib.ListN.{length};
-ghost use Rattle.text.specs.Text.{Wrote};
-ghost use Rattle.level_control.specs.Answer.{packed};
-ghost use Rattle.sheet.specs.Lines.{answerLine, recordOutcome, textOf};
+ghost use Rattle.text.specs.Text.{Wrote, most, putInRoom};
+ghost use Rattle.level_control.specs.Answer.{outcomeOf};
+ghost use Rattle.sheet.specs.Lines.{linesFrom, outcomeLine, outcomesOf, recordOutcome, recordsOf, stateAfter, textOf};
+
+// How far lines reach, and the state that their events leave.
+pub struct Lines {
+    pub at: usize,
+    pub state: LevelControlState,
+}
 
 // A record's event in a state; a damaged record is refused with number 1.
-pub fn record_event(state: LevelControlState, bytes: &[u8]) -> Answer
-    ensures { λ r. ⌜ r ≡ packed (recordOutcome state (now (bytes .entry))) ⌝ }
+pub fn record_event(state: LevelControlState, bytes: &[u8]) -> Effect
+    ensures { λ r. ⌜ outcomeOf r ≡ recordOutcome state (now (bytes .entry)) ⌝ }
 {
     match read_event(bytes) {
-        EventRead::Event(event) => state.event(event),
-        EventRead::RecordWrong => Answer::refused(state, 1),
+        EventRead::Event(event) => state.effect(event),
+        EventRead::RecordWrong => Effect::refused(state, 1),
     }
 }
 
-// The line of an answer, as far as it fits, and the position past it.
-pub fn put_answer(out: &mut [u8], at: usize, index: u64, answer: Answer) -> usize
-    ensures { λ r. ⌜ Wrote (now (out .entry)) at (answerLine index answer) (now (out .exit)) r ⌝ }
+// The line of what an event gave, where the longest line has room.
+pub fn put_effect(out: &mut [u8], at: usize, index: u64, effect: Effect) -> usize
+    ensures { λ r. ⌜ (r, now (out .exit)) ≡ putInRoom (now (out .entry)) at (outcomeLine index (outcomeOf effect)) ⌝ }
     ensures { λ r. ⌜ r ≤ at + 189 ⌝ }
 {
-    let number = answer.number;
-    let state = answer.state;
+    let state = effect.state;
     let level = state.current_level;
     let remaining = state.remaining_time;
-    let actions = answer.actions;
-    let count = answer.count;
-    put_line(out, at, index, number, level, remaining, actions, count)
+    let actions = effect.actions;
+    put_line(out, at, index, effect.number, level, remaining, actions)
 }
 
 // The lines of all events, as far as they fit, and the position past them. What is left over at the end, less than a record, is not read.
@@ -40,18 +46,59 @@ pub fn put_lines(events: &[u8], start: LevelControlState, out: &mut [u8]) -> usi
     ensures { λ r. ⌜ Wrote (now (out .entry)) 0 (textOf start (now (events .entry))) (now (out .exit)) r ⌝ }
     ensures { λ r. ⌜ r ≤ 189 * (length (now (events .entry)) / 20) ⌝ }
 {
+    if events.len() / 20 <= out.len() / 189 {
+        let lines = put_in_room(events, start, 1, out);
+        return lines.at;
+    }
+    put_each(events, start, out)
+}
+
+// Where the longest lines have room; the first has this index.
+fn put_in_room(events: &[u8], start: LevelControlState, first: u64, out: &mut [u8]) -> Lines
+    requires { ⌜ 189 * (length (now events) / 20) ≤ length (now out) ⌝ }
+    requires { ⌜ first + length (now events) ≤ most ⌝ }
+    ensures { λ r. ⌜ Wrote (now (out .entry)) 0 (linesFrom first (outcomesOf start (recordsOf (length (now (events .entry)) / 20) (now (events .entry))))) (now (out .exit)) (r .at) ⌝ }
+    ensures { λ r. ⌜ r .at ≤ 189 * (length (now (events .entry)) / 20) ⌝ }
+    ensures { λ r. ⌜ r .state ≡ stateAfter start (recordsOf (length (now (events .entry)) / 20) (now (events .entry))) ⌝ }
+{
+    let mut state = start;
+    let mut at = 0;
+    let mut from = 0;
+    let mut index = first;
+    let mut left = events.len() / 20;
+    while 0 < left {
+        let effect = record_event(state, &events[from..from + 20]);
+        at = put_effect(out, at, index, effect);
+        state = effect.state;
+        from += 20;
+        index += 1;
+        left -= 1;
+    }
+    Lines {
+        at: at,
+        state: state,
+    }
+}
+
+// Each line is made apart, and then written as far as it fits.
+fn put_each(events: &[u8], start: LevelControlState, out: &mut [u8]) -> usize
+    ensures { λ r. ⌜ Wrote (now (out .entry)) 0 (textOf start (now (events .entry))) (now (out .exit)) r ⌝ }
+    ensures { λ r. ⌜ r ≤ 189 * (length (now (events .entry)) / 20) ⌝ }
+{
     let mut state = start;
     let mut at = 0;
     let mut from = 0;
     let mut index = 1;
-    let mut left = events.len() / 20;
-    while 0 < left {
-        let answer = record_event(state, &events[from..from + 20]);
-        at = put_answer(out, at, index, answer);
-        state = answer.state;
+    let mut lines_left = events.len() / 20;
+    while 0 < lines_left {
+        let mut line = [0u8; 189];
+        let lines = put_in_room(&events[from..from + 20], state, index, &mut line);
+        let end = front(lines.at, &line);
+        at = put_all(out, at, &line[..end]);
+        state = lines.state;
         from += 20;
         index += 1;
-        left -= 1;
+        lines_left -= 1;
     }
     at
 }

@@ -3,7 +3,7 @@ use Prim.Native.Nat.{ℕ, zero, suc, _+_, _-_, _*_, _/_, _%_, _^_, _≤_, _<_, z
 use Prim.Native.Char.{code}
 use mathlib.Core.Path.{_≡_, refl, sym, ap, _∙_}
 use mathlib.Core.Bool.{Bool, true, false}
-use mathlib.Core.List.{List, [], _∷_, _++_}
+use mathlib.Core.List.{List, [], _∷_, _++_, append-assoc}
 use native.Mathlib.Nat.{pow-succ'}
 use native.Mathlib.Numerals.{sub-one}
 use native.Mathlib.Omega.{arith}
@@ -11,7 +11,7 @@ use borrow.Author.Tests.{lt-ltb, le-ltb, ltb-true, ltb-false}
 use lib.Dec.{ltb}
 use lib.ListN.{length, getD, set, drop, length-append, List·getD-append}
 use lib.Seq.{append-snoc}
-use Rattle.text.specs.Text.{Wrote, most, digits, digitsWithin}
+use Rattle.text.specs.Text.{Wrote, most, digits, digitsWithin, threeDigits}
 use Rattle.text.specs.Laws.{readAfter, readDigits, All, Digit}
 use Rattle.text.proofs.WriteLaws.{then}
 
@@ -47,6 +47,31 @@ digits-one x h = within-one 19 x h
 pub digits-more : (x : ℕ) → x < 2 ^ 64 → 10 ≤ x → digits x ≡ digits (x / 10) ++ ((code "0" + x % 10) ∷ [])
 unfolding digits
 digits-more x b h = within-more 19 x h ∙ ap (λ (l : List ℕ). l ++ ((code "0" + x % 10) ∷ [])) (sym (enough 18 (x / 10) (omega arith)))
+
+-- Digits two and three at a time.
+
+pub digits-two : (x : ℕ) → 10 ≤ x → x < 100 → digits x ≡ (code "0" + x / 10) ∷ (code "0" + x % 10) ∷ []
+digits-two x h g = digits-more x (omega arith) h ∙ rw (digits-one (x / 10) (omega arith))
+
+pub digits-three : (x : ℕ) → 100 ≤ x → x < 1000 → digits x ≡ threeDigits x
+digits-three x h g =
+    let first : x / 10 / 10 ≡ x / 100 = omega arith in
+    digits-more x (omega arith) (omega arith) ∙ rw (digits-two (x / 10) (omega arith) (omega arith), first)
+
+digits-thousands : (x : ℕ) → x < 2 ^ 64 → 1000 ≤ x → digits x ≡ digits (x / 1000) ++ threeDigits (x % 1000)
+digits-thousands x b h =
+    let thousands : x / 10 / 10 / 10 ≡ x / 1000 = omega arith in
+    let third : x / 10 / 10 % 10 ≡ x % 1000 / 100 = omega arith in
+    let second : x / 10 % 10 ≡ x % 1000 / 10 % 10 = omega arith in
+    let first : x % 10 ≡ x % 1000 % 10 = omega arith in
+    digits-more x b (omega arith)
+    ∙ rw (digits-more (x / 10) (omega arith) (omega arith), digits-more (x / 10 / 10) (omega arith) (omega arith), thousands, third, second, first)
+    (simp append-assoc)
+
+-- the thousands, and the last three digits
+pub thousands-done : (x : ℕ) {old mid new : List ℕ} {at p r : ℕ} → x < 2 ^ 64 → 1000 ≤ x → length old ≤ most
+    → Wrote old at (digits (x / 1000)) mid p → Wrote mid p (threeDigits (x % 1000)) new r → Wrote old at (digits x) new r
+thousands-done x b g h w v = rw (digits-thousands x b g) (then h w v)
 
 -- a number below 10^(k+1) has at most k+1 digits, and none has more than 20
 within-length : (j k x : ℕ) → x < 10 ^ suc k → length (digitsWithin j x) ≤ suc k

@@ -1,21 +1,23 @@
--- Laws of a line: one action more, as the loop writes them, and the most bytes that it has. Assumes nothing.
+-- Laws of a line: its actions by their places, and the most bytes that it has. Assumes nothing.
 use Prim.Native.Nat.{ℕ, _+_, _*_, _<_, _≤_, zero-le}
 use mathlib.Core.Path.{_≡_, refl}
 use mathlib.Core.Bool.{Bool, true, false, cond}
-use mathlib.Core.List.{List, [], _∷_, _++_, append-assoc, append-nil}
-use native.Mathlib.Numerals.{add-one}
+use mathlib.Core.List.{List, [], _∷_, _++_, append-assoc}
 use native.Mathlib.Omega.{arith}
 use lib.Dec.{lit≤}
-use lib.ListN.{length, take, getD, length-append, length-take}
-use lib.Seq.{take-suc, take-all}
+use lib.ListN.{length, length-append}
 use Rattle.units.specs.declared.Tenths.{Tenths}
+use Rattle.transitions.specs.ActionList.{actionsOf, reportsOf, thenOf, lastOf}
+use Rattle.transitions.specs.Events.{actIf, actCoupled}
+use Rattle.transitions.specs.declared.«action_list».Actions.{Actions}
 use Rattle.transitions.specs.declared.events.Action.{Action}
+use Rattle.transitions.specs.declared.events.ActionKind.{ActionKind}
+use Rattle.transitions.specs.declared.events.ActionKind.the-variants.{P, S, L, R}
 use Rattle.transitions.specs.declared.types.Level.{Level}
 use Rattle.transitions.specs.declared.types.Level.the-variants.{Known, Missing}
-use Rattle.text.specs.Text.{Wrote, most, digits}
-use Rattle.text.specs.Line.{showsValue, levelText, actionText, actionsText, lineOf}
+use Rattle.text.specs.Text.{Wrote, digits}
+use Rattle.text.specs.Line.{letterOf, showsValue, levelText, wordText, actionText, actionsText, lineOf}
 use Rattle.text.specs.Laws.{LevelByte}
-use Rattle.text.proofs.WriteLaws.{then}
 use Rattle.text.proofs.DigitLaws.{digits-below, digits-at-most}
 
 actions-append : (xs ys : List Action) → actionsText (xs ++ ys) ≡ actionsText xs ++ actionsText ys
@@ -23,18 +25,36 @@ unfolding actionsText
 actions-append [] ys = refl
 actions-append (a ∷ xs) ys = rw (actions-append xs ys, append-assoc)
 
-actions-more : (xs : List Action) (i : ℕ) (d : Action) → i < length xs → actionsText (take (i + 1) xs) ≡ actionsText (take i xs) ++ actionText (getD xs i d)
-unfolding actionsText
-actions-more xs i d h = rw (add-one, take-suc xs i d h, actions-append, append-nil)
+-- a letter that stands alone, where it is called for
+if-text : (test : Bool) (k : ActionKind) → showsValue k ≡ false → actionsText (actIf test k) ≡ cond test (wordText (letterOf k)) []
+unfolding actionsText actionText
+if-text true k alone = rw alone
+if-text false k alone = refl
 
--- a turn of the loop: one action more is written
-pub one-more : (xs : List Action) (i : ℕ) (d : Action) {old mid new : List ℕ} {at p r : ℕ} → length old ≤ most → i < length xs
-    → Wrote old at (actionsText (take i xs)) mid p → Wrote mid p (actionText (getD xs i d)) new r → Wrote old at (actionsText (take (i + 1) xs)) new r
-one-more xs i d o h w v = rw (actions-more xs i d h) (then o w v)
+-- the actions by their places
+abbrev pub byPlaces : Actions → List ℕ
+byPlaces a =
+    cond (a .reports .stored) (wordText (letterOf P)) []
+    ++ cond (a .reports .scene) (wordText (letterOf S)) []
+    ++ actionsText (actCoupled (a .reports .coupling))
+    ++ cond (a .reports .level) (wordText (letterOf L)) []
+    ++ cond (a .reports .time) (wordText (letterOf R)) []
+    ++ actionsText (thenOf (a .then))
+    ++ actionsText (lastOf (a .last))
 
--- past the end it does not matter how many are taken
-pub take-same : (m n : ℕ) (xs : List Action) → length xs ≤ m → length xs ≤ n → take m xs ≡ take n xs
-take-same m n xs hm hn = rw (take-all m xs hm, take-all n xs hn)
+places-text : (a : Actions) → actionsText (actionsOf a) ≡ byPlaces a
+unfolding actionsOf reportsOf
+places-text a = simp (
+  actions-append,
+  if-text (a .reports .stored) P refl,
+  if-text (a .reports .scene) S refl,
+  if-text (a .reports .level) L refl,
+  if-text (a .reports .time) R refl,
+)
+
+-- who has written them by their places has written them
+pub places-wrote : (a : Actions) {old new : List ℕ} {at r : ℕ} → Wrote old at (byPlaces a) new r → Wrote old at (actionsText (actionsOf a)) new r
+places-wrote a w = rw (places-text a) w
 
 shown-length : (shown : Bool) (x : ℕ) → length (cond shown (digits x) []) ≤ 20
 shown-length true x = digits-at-most x
@@ -49,33 +69,20 @@ unfolding actionsText
 actions-length [] = zero-le
 actions-length (a ∷ xs) = simp length-append (omega (arith, action-length a, actions-length xs))
 
--- seven actions have at most 154 bytes
-pub actions-at-most : (xs : List Action) (count : ℕ) → length xs ≡ 7 → length (actionsText (take count xs)) ≤ 154
-actions-at-most xs count seven =
-    let taken : length (take count xs) ≤ 7 = simp length-take (omega arith) in
-    omega (arith, actions-length (take count xs))
-
--- three digits of the number, three bytes of the level, five digits of the tenths, the actions, three spaces and a line feed
-line-beside : (index number : ℕ) (level : Level) (remaining : Tenths) (actions : List Action)
-    → number < 256 → length (levelText level) ≤ 3 → remaining .0 < 65536 → length (actionsText actions) ≤ 154
-    → length (lineOf index number level remaining actions) ≤ 169 + length (digits index)
-unfolding lineOf
-line-beside index number level remaining actions n l t a =
-    simp length-append (omega (arith, digits-below 2 number (omega arith), digits-below 4 (remaining .0) (omega arith)))
-
-pub line-at-most : (index number : ℕ) (level : Level) (remaining : Tenths) (actions : List Action)
-    → number < 256 → length (levelText level) ≤ 3 → remaining .0 < 65536 → length (actionsText actions) ≤ 154
-    → length (lineOf index number level remaining actions) ≤ 189
-line-at-most index number level remaining actions n l t a =
-    omega (arith, line-beside index number level remaining actions n l t a, digits-at-most index)
-
 level-length : (l : Level) → LevelByte l → length (levelText l) ≤ 3
 unfolding levelText
 level-length (Known l) h = digits-below 2 l (omega arith)
 level-length Missing h = lit≤ tt
 
+-- three digits of the number, three bytes of the level, five digits of the tenths, 22 bytes for each action, three spaces and a line feed
 pub line-length : (index number : ℕ) (level : Level) (remaining : Tenths) (actions : List Action)
     → number < 256 → LevelByte level → remaining .0 < 65536 → length actions ≤ 7
     → length (lineOf index number level remaining actions) ≤ 169 + length (digits index)
-line-length index number level remaining actions n l t a =
-    line-beside index number level remaining actions n (level-length level l) t (omega (arith, actions-length actions))
+unfolding lineOf
+line-length index number level remaining actions n l t a = simp length-append (omega (
+  arith,
+  digits-below 2 number (omega arith),
+  level-length level l,
+  digits-below 4 (remaining .0) (omega arith),
+  actions-length actions,
+))

@@ -1,13 +1,14 @@
--- Laws of `Wrote`: one text after another, and how far a text moves the position. Assumes nothing.
+-- Laws of `Wrote` and `putInRoom`: one text after another, how far a text moves the position, and a text where it has room. Assumes nothing.
 use Prim.Native.Nat.{ℕ, suc, _+_, _≤_, _<_}
-use mathlib.Core.Path.{_≡_, refl, sym, _∙_}
+use mathlib.Core.Path.{_≡_, refl, sym, ap, _∙_}
 use mathlib.Core.List.{List, [], _∷_, _++_}
 use native.Mathlib.Nat.{add-zero, add-suc, suc-add}
 use native.Mathlib.Numerals.{add-one}
 use native.Mathlib.Omega.{arith, min-cases}
+use borrow.Author.Tests.{le-leb, lt-leb}
 use lib.ListN.{length, set, getD, drop, length-append, drop-of-length-le}
 use lib.Seq.{sets, length-sets, set-out, drop-cons}
-use Rattle.text.specs.Text.{Wrote, most}
+use Rattle.text.specs.Text.{Wrote, most, putInRoom}
 
 -- past the end nothing is written
 sets-out : (l : List ℕ) (i : ℕ) (vs : List ℕ) → length l ≤ i → sets l i vs ≡ l
@@ -49,3 +50,34 @@ tail-more tail i d h g w v = rw (drop-cons tail i d g) (then h w (rw add-one at 
 -- past the end of a list nothing is left to write
 pub tail-done : (tail : List ℕ) (i : ℕ) {old : List ℕ} {at : ℕ} → at ≤ most → length tail ≤ i → Wrote old at (drop i tail) old at
 tail-done tail i h g = rw (drop-of-length-le tail g) (none-wrote h)
+
+-- A text of at most 189 bytes where 189 have room.
+module _ (old : List ℕ) (at : ℕ) (text : List ℕ) where
+  put-there : at + 189 ≤ length old → putInRoom old at text ≡ (at + length text, sets old at text)
+  unfolding putInRoom
+  put-there room = rw (le-leb (at + 189) (length old) room)
+
+  -- where they have not, nothing is written
+  pub no-room : length old < at + 189 → putInRoom old at text ≡ (at, old)
+  unfolding putInRoom
+  no-room full = rw (lt-leb (at + 189) (length old) full)
+
+  -- a text that moved the position by less was put there
+  pub wrote-room : {new : List ℕ} {r : ℕ} → at + 189 ≤ length old → length old ≤ most → r < at + 189
+      → Wrote old at text new r → (r, new) ≡ putInRoom old at text
+  wrote-room {new} {r} room h g w =
+      let e : r ≡ at + length text = omega (arith, w .next) in
+      rw (put-there room, e, w .bytes)
+
+  there : {new : List ℕ} {r : ℕ} → at + 189 ≤ length old → (r, new) ≡ putInRoom old at text → (r ≡ at + length text) × (new ≡ sets old at text)
+  there room e =
+      (ap (λ (p : ℕ × List ℕ). p .0) (e ∙ put-there room), ap (λ (p : ℕ × List ℕ). p .1) (e ∙ put-there room))
+
+  -- for callers: the text was written whole
+  pub room-wrote : {new : List ℕ} {r : ℕ} → length text ≤ 189 → at + 189 ≤ length old → length old ≤ most
+      → (r, new) ≡ putInRoom old at text → Wrote old at text new r
+  room-wrote l room h e = record { bytes = there room e .1; next = omega (arith, there room e .0) }
+
+  -- for callers: the position says how long the text is
+  pub room-length : {new : List ℕ} {r : ℕ} → at + 189 ≤ length old → r ≤ at + 189 → (r, new) ≡ putInRoom old at text → length text ≤ 189
+  room-length room h e = omega (arith, there room e .0)

@@ -41,6 +41,10 @@ unfoldable pub levelText : Level → List ℕ
 levelText (Known l) = digits l
 levelText Missing = ascii "-"
 
+-- a space and a letter: an action with no value
+abbrev pub wordText : ℕ → List ℕ
+wordText letter = ascii " " ++ (letter ∷ [])
+
 unfoldable pub actionText : Action → List ℕ
 actionText a = ascii " " ++ (letterOf (a .kind) ∷ []) ++ cond (showsValue (a .kind)) (digits (a .value)) []
 

@@ -6,7 +6,7 @@ use Prim.Native.String as str
 use mathlib.Core.Path.{_≡_}
 use mathlib.Core.Bool.{cond}
 use mathlib.Core.List.{List, [], _∷_, _++_}
-use lib.Dec.{ltb}
+use lib.Dec.{leb, ltb}
 use lib.ListN.{length}
 use lib.Seq.{sets}
 
@@ -24,6 +24,10 @@ pub record Wrote (old : List ℕ) (at : ℕ) (text new : List ℕ) (r : ℕ) : T
   pub bytes : new ≡ sets old at text
   pub next : r ≡ min (at + length text) most
 
+-- a line is written where the longest, 189 bytes, has room, else nothing is
+unfoldable pub putInRoom : List ℕ → ℕ → List ℕ → ℕ × List ℕ
+putInRoom old at text = cond (leb (at + 189) (length old)) (at + length text, sets old at text) (at, old)
+
 -- the digits of x, the most significant first; k is enough for them
 unfoldable pub digitsWithin : ℕ → ℕ → List ℕ
 digitsWithin zero x = []
@@ -32,3 +36,7 @@ digitsWithin (suc k) x = cond (ltb x 10) ((code "0" + x) ∷ []) (digitsWithin k
 -- the digits of a number of 64 bits: none has more than 20
 unfoldable pub digits : ℕ → List ℕ
 digits x = digitsWithin 20 x
+
+-- the digits of a number below 1000, with leading zeros
+abbrev pub threeDigits : ℕ → List ℕ
+threeDigits x = (code "0" + x / 100) ∷ (code "0" + x / 10 % 10) ∷ (code "0" + x % 10) ∷ []

@@ -5,7 +5,7 @@ pub mod line;
 ghost use mathlib.Core.Path.{_≡_};
 ghost use mathlib.Core.List.{[], _∷_};
 ghost use Prim.Native.Nat.{_≤_, min};
-ghost use lib.ListN.{drop, length, take};
+ghost use lib.ListN.{length, take};
 ghost use Rattle.text.specs.Laws.{Laws};
 ghost use Rattle.text.specs.Text.{Wrote, digits};
 
@@ -21,7 +21,7 @@ pub fn put(out: &mut [u8], at: usize, b: u8) -> usize
 }
 
 // A number in decimal, with no leading zeros, and the position past it. The digits after the first are found from the last one on;
-// most numbers of a line have one digit, and need no search.
+// a number of one digit needs no search.
 pub fn put_decimal(out: &mut [u8], at: usize, x: u64) -> usize
     ensures { λ r. ⌜ Wrote (now (out .entry)) at (digits x) (now (out .exit)) r ⌝ }
 {
@@ -38,17 +38,17 @@ pub fn put_decimal(out: &mut [u8], at: usize, x: u64) -> usize
         rest = rest / 10;
     }
     let next = put(out, at, b'0' + rest as u8);
-    put_tail(out, next, tail, first)
+    put_all(out, next, &tail[first..])
 }
 
-// The bytes from `first` on, and the position past them.
-fn put_tail(out: &mut [u8], at: usize, tail: [u8; 20], first: usize) -> usize
-    ensures { λ r. ⌜ Wrote (now (out .entry)) at (drop first tail) (now (out .exit)) r ⌝ }
+// The bytes of a slice, and the position past them.
+pub fn put_all(out: &mut [u8], at: usize, text: &[u8]) -> usize
+    ensures { λ r. ⌜ Wrote (now (out .entry)) at (now (text .entry)) (now (out .exit)) r ⌝ }
 {
     let mut next = at;
-    let mut i = first;
-    while i < 20 {
-        next = put(out, next, tail[i]);
+    let mut i = 0;
+    while i < text.len() {
+        next = put(out, next, text[i]);
         i += 1;
     }
     next

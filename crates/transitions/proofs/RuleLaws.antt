@@ -40,6 +40,7 @@ use Rattle.transitions.proofs.Booleans.{or-cases, or-first, or-second, 
 use Rattle.transitions.proofs.SearchLaws.{found, missed, either}
 use Rattle.transitions.proofs.TaskLaws as task
 use Rattle.transitions.proofs.TaskLaws.{none-is-not-one, one-is, one}
+use Rattle.transitions.proofs.ActionListLaws as list
 use Rattle.transitions.proofs.ValueLaws as value
 use Rattle.transitions.proofs.ValueLaws.{known-is}
 
@@ -409,6 +410,8 @@ rule-laws = record {
   same-level = value.same-level;
   outside = value.outside;
   rate-0 = value.rate-0;
+  seven-places = list.seven-places;
+  slots-are-actions = list.slots-are-actions;
   turn-answer = value.turn-answer;
   turn-wake = value.turn-wake;
   turn-start-up = value.turn-start-up;

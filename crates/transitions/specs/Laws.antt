@@ -5,7 +5,7 @@ use mathlib.Core.Path.{_≡_}
 use mathlib.Core.Logic.{_↔_, _⊎_}
 use mathlib.Core.List.{List, [], _∷_}
 use Rattle.units.specs.Numbers.{apart}
-use Rattle.units.specs.Units.{tenths, isZero}
+use Rattle.units.specs.Units.{tenths}
 use Rattle.units.specs.declared.Tenths.{Tenths}
 use Rattle.units.specs.declared.Millis.{Millis}
 use Rattle.units.specs.declared.Micros.{Micros}
@@ -31,6 +31,9 @@ use Rattle.transitions.specs.declared.types.Rate.{Rate}
 use Rattle.transitions.specs.declared.types.Rate.the-variants as rate
 use Rattle.transitions.specs.declared.types.Time.the-variants as time
 use Rattle.transitions.specs.declared.types.OptionsBitmap.{OptionsBitmap}
+use lib.ListN.{length, take}
+use Rattle.transitions.specs.ActionList.{actionsOf, listOf}
+use Rattle.transitions.specs.declared.«action_list».Actions.{Actions}
 use Rattle.transitions.specs.declared.causes.Tests.{Tests}
 use Rattle.transitions.specs.declared.events.DeviceAnswer.{DeviceAnswer}
 use Rattle.transitions.specs.declared.events.EventKind.{EventKind}
@@ -161,6 +164,9 @@ pub record Laws : Type 0 where
   pub same-level : (a b : Level) → (sameLevel a b ≡ true) ↔ (a ≡ b)
   pub outside : (level : Level) (lo hi : ℕ) → (isOutside level lo hi ≡ true) ↔ ((c : ℕ) × (level ≡ Known c) × ((c < lo) ⊎ (hi < c)))
   pub rate-0 : (r : Rate) → (isZeroRate r ≡ true) ↔ (r ≡ rate.Known 0)
+  -- Actions: "a list of at most seven"; of the array the first `count` slots are the list
+  pub seven-places : (a : Actions) → length (actionsOf a) ≤ 7
+  pub slots-are-actions : (a : Actions) → take (listOf (actionsOf a) .count) (listOf (actionsOf a) .actions) ≡ actionsOf a
   -- Causes: of 6 to 9, an answer alone may meet 7 and not 6; 8 is a wake's alone, 9 start-up's
   pub turn-answer : (k : EventKind) → (turnCauses (turnOf k) ≡ 7 ∷ []) ↔ ((a : DeviceAnswer) × (k ≡ kind.Answer a))
   pub turn-wake : (k : EventKind) → (turnCauses (turnOf k) ≡ 6 ∷ 8 ∷ []) ↔ (k ≡ kind.Wake)

@@ -104,6 +104,14 @@ impl Tests {
             lighting_min_0: false,
             output_short: false,
         };
+        let command = CommandTests {
+            invalid_command: command.invalid_command,
+            stopped_by_options: command.stopped_by_options,
+            invalid_in_state: command.invalid_in_state,
+            product_too_large: command.product_too_large,
+            level_outside: command.level_outside,
+            rate_0: command.rate_0,
+        };
         Tests {
             call: call,
             turn: turn,

@@ -35,24 +35,24 @@ pub struct Fade {
     // The level asked for last. It moves by one, whatever level the device gives back.
     pub counter: u8,
     pub transition_time: Tenths,
+    pub after: AfterFade,
     pub remaining: Millis,
     pub period: Millis,
-    pub after: AfterFade,
     pub phase: Phase,
 }
 
 // What a move command asks for.
 pub struct MoveCourse {
+    pub period: Micros,
     pub with_on_off: bool,
     pub mode: Mode,
-    pub period: Micros,
 }
 
 // A move at a rate: the source's move_transition.
 pub struct Move {
+    pub phase: Phase,
     pub course: MoveCourse,
     pub asked: u8,
-    pub phase: Phase,
 }
 
 // The reaction to on, while its request for MIN is open. It keeps the level before.

@@ -1,9 +1,10 @@
-use Prim.Native.Nat.{_≤_, _<_, _^_}
+use Prim.Native.Nat.{_≤_, _<_, _-_, _^_}
 use mathlib.Core.Path.{_≡_, refl, sym}
 use mathlib.Core.List.{_++_, append-nil}
 use native.Mathlib.Omega.{arith}
 use borrow.Author.Needs.{needs}
-use lib.ListN.{length, drop, length-set}
+use lib.ListN.{length, drop, length-set, length-drop}
+use lib.Seq.{take-all}
 use Rattle.text.specs.Text.{digits}
 use Rattle.text.proofs.DigitLaws.{digits-one, place-left, digit-found, decimal-done}
 use Rattle.text.proofs.put_decimal.Statement.{statement}
@@ -41,10 +42,12 @@ loop-again c =
 
 returns-2 : tie.Need-returns-2 Inv-loop μ-loop
 returns-2 c =
-    let tail = c .before .before in
-    let first = tail .before .before .before .before in
+    let all = c .before .before in
+    let first = all .before .before .before .before .before .before in
     let done = first .before .before in
-    decimal-done _ (done .before .loop .rest) (done .loop-test .left) (omega arith) (done .before .loop .inv .4) (first .put2 .ensures) (tail .put-tail .ensures)
+    let turn = done .before .loop in
+    let found : length (drop (turn .first) (turn .tail)) ≤ 20 - turn .first = simp length-drop (omega arith) in
+    decimal-done _ (turn .rest) (done .loop-test .left) (omega arith) (turn .inv .4) (first .put2 .ensures) (rw (take-all _ _ found) at (all .put-all .ensures))
 
 pub put-decimal-spec : {M : Type 1} → statement M
 put-decimal-spec =
@@ -67,6 +70,9 @@ put-decimal-spec =
     (λ c. search needs)
     (λ c. search needs)
     (λ c κs. tt)
+    (λ c. search needs)
+    (λ c. search needs)
+    (λ c. search needs)
     (λ c κs. tt)
     (λ c. search needs)
     returns-2)

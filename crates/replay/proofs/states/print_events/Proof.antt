@@ -4,10 +4,6 @@ use Prim.Native.Nat.{_+_, _*_, _≤_}
 use borrow.Author.Needs.{needs}
 use Rattle.replay.proofs.states.print_events.Statement.{statement}
 use Rattle.replay.proofs.states.print_events.Tie as tie
-use Rattle.replay.proofs.states.print_events.Reads as reads
-use Rattle.replay.proofs.states.print_events.Lts as lts
-use Rattle.replay.proofs.states.print_answer.Reads as print-answer-reads
-use Rattle.sheet.proofs.lines.record_event.Reads as record-event-reads
 
 abbrev Inv-loop : tie.InvT-loop
 Inv-loop events state₀ from₀ index₀ left₀ state from index left =
@@ -41,8 +37,8 @@ record-event-requires : tie.Need-record-event-requires Inv-loop μ-loop
 record-event-requires c κs = search needs
 
 -- src/states.rt:81:9
-print-answer-requires : tie.Need-print-answer-requires Inv-loop μ-loop
-print-answer-requires c κs = search needs
+print-effect-requires : tie.Need-print-effect-requires Inv-loop μ-loop
+print-effect-requires c κs = search needs
 
 -- src/states.rt:83:9
 add-from : tie.Need-add-from Inv-loop μ-loop
@@ -80,7 +76,7 @@ print-events-spec =
     part-record-event-start
     part-record-event-end
     record-event-requires
-    print-answer-requires
+    print-effect-requires
     add-from
     add-index
     sub-left

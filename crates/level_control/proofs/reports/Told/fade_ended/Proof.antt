@@ -1,3 +1,4 @@
+use mathlib.Core.List.{append-nil}
 use mathlib.Core.Path.{sym, _∙_}
 use Rattle.level_control.specs.Fades.{fadeEnded}
 use borrow.Author.Needs.{needs}
@@ -10,7 +11,7 @@ returns c = simp (c .restored .ensures, sym (c .before .before .before .before .
 
 returns-2 : tie.Need-returns-2
 unfolding fadeEnded
-returns-2 c = simp (c .reporting .ensures, c .before .with-task .ensures, sym (c .before .before .before .before .before .level-to-restore .ensures) ∙ c .before .before .before .enum-told .given .1)
+returns-2 c = simp (c .ends .ensures, sym (c .before .before .before .level-to-restore .ensures) ∙ c .before .enum-told .given .1, append-nil)
 
 pub fade-ended-spec : {M : Type 1} → statement M
 fade-ended-spec =
@@ -20,7 +21,6 @@ fade-ended-spec =
     (λ c. search needs)
     (λ c κs. tt)
     (λ c. search needs)
-    (λ c κs. tt)
     (λ c κs. tt)
     returns
     returns-2)

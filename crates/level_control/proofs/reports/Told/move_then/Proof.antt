@@ -1,13 +1,13 @@
+use mathlib.Core.List.{append-nil}
 use mathlib.Core.Path.{sym, _∙_}
 use Rattle.level_control.specs.Moves.{moveThen}
-use Rattle.level_control.proofs.AnswerLaws.{packed-pushed}
 use borrow.Author.Needs.{needs}
 use Rattle.level_control.proofs.reports.Told.move_then.Statement.{statement}
 use Rattle.level_control.proofs.reports.Told.move_then.Tie as tie
 
 returns : tie.Need-returns
 unfolding moveThen
-returns c = simp (c .push-wait .ensures, c .before .reporting .ensures, c .before .before .with-task .ensures, c .before .before .before .waiting .ensures, sym (c .before .before .before .before .before .before .before .before .before .wait-or-ask .ensures) ∙ c .before .before .before .before .before .before .before .next .given .1, packed-pushed)
+returns c = simp (c .then .ensures, c .before .waiting .ensures, sym (c .before .before .before .before .before .wait-or-ask .ensures) ∙ c .before .before .before .next .given .1, append-nil)
 
 returns-2 : tie.Need-returns-2
 unfolding moveThen
@@ -19,8 +19,6 @@ move-then-spec =
     (tie.spec
     (λ c κs. tt)
     (λ c. search needs)
-    (λ c κs. tt)
-    (λ c κs. tt)
     (λ c κs. tt)
     (λ c κs. tt)
     (λ c. search needs)

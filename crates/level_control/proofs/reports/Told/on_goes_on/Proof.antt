@@ -1,6 +1,5 @@
 use mathlib.Core.Path.{sym, _∙_}
 use Rattle.level_control.specs.Reactions.{onGoesOn}
-use Rattle.level_control.proofs.AnswerLaws.{packed-pushed}
 use borrow.Author.Needs.{needs}
 use Rattle.level_control.proofs.reports.Told.on_goes_on.Statement.{statement}
 use Rattle.level_control.proofs.reports.Told.on_goes_on.Tie as tie
@@ -11,7 +10,7 @@ returns c = simp (c .go-to .ensures, c .before .request-to .ensures, c .before .
 
 returns-2 : tie.Need-returns-2
 unfolding onGoesOn
-returns-2 c = simp (c .push .ensures, c .before .reporting .ensures, c .before .before .with-task .ensures, sym (c .before .before .before .before .before .before .or-else .ensures) ∙ c .before .before .before .before .enum-told .given .1, packed-pushed)
+returns-2 c = simp (c .ends .ensures, sym (c .before .before .before .or-else .ensures) ∙ c .before .enum-told .given .1)
 
 pub on-goes-on-spec : {M : Type 1} → statement M
 on-goes-on-spec =
@@ -23,8 +22,6 @@ on-goes-on-spec =
     (λ c κs. tt)
     (λ c κs. tt)
     (λ c. search needs)
-    (λ c κs. tt)
-    (λ c κs. tt)
     (λ c κs. tt)
     returns
     returns-2)

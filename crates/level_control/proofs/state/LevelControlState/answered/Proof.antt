@@ -5,7 +5,7 @@ use Rattle.level_control.proofs.state.LevelControlState.answered.Tie as
 
 returns : tie.Need-returns
 unfolding answered
-returns c = simp (c .accepted .ensures, c .before .enum-told .given .1)
+returns c = simp (c .doing .ensures, c .before .enum-told .given .1)
 
 returns-2 : tie.Need-returns-2
 unfolding answered
@@ -17,7 +17,7 @@ returns-3 c = simp (c .fade-answered .ensures, c .before .before .phase .given .
 
 returns-4 : tie.Need-returns-4
 unfolding answered
-returns-4 c = simp (c .accepted2 .ensures, c .before .enum-told3 .given .1, c .before .before .before .before .task .given .1)
+returns-4 c = simp (c .doing2 .ensures, c .before .enum-told3 .given .1, c .before .before .before .before .task .given .1)
 
 returns-5 : tie.Need-returns-5
 unfolding answered
@@ -25,7 +25,7 @@ returns-5 c = simp (c .move-answered .ensures, c .before .before .phase2 .given 
 
 returns-6 : tie.Need-returns-6
 unfolding answered
-returns-6 c = simp (c .accepted3 .ensures, c .before .enum-told4 .given .1, c .before .before .before .before .task2 .given .1)
+returns-6 c = simp (c .doing3 .ensures, c .before .enum-told4 .given .1, c .before .before .before .before .task2 .given .1)
 
 returns-7 : tie.Need-returns-7
 unfolding answered

@@ -6,7 +6,7 @@ use Rattle.level_control.proofs.state.LevelControlState.begin_move.Tie 
 
 returns : tie.Need-returns
 unfolding beginMove
-returns c = simp (c .accepted .ensures, simp (c .before .before .at-limit .ensures) at (c .before .if1 .taken))
+returns c = simp (c .doing .ensures, simp (c .before .before .at-limit .ensures) at (c .before .if1 .taken))
 
 returns-2 : tie.Need-returns-2
 unfolding beginMove
@@ -14,7 +14,7 @@ returns-2 c = simp (c .move-goes-on .ensures, c .before .quiet .ensures, c .befo
 
 returns-3 : tie.Need-returns-3
 unfolding beginMove
-returns-3 c = simp (c .accepted2 .ensures, sym (c .before .before .before .rate-by .ensures) ∙ c .before .enum-told .given .1, simp (c .before .before .before .before .before .at-limit .ensures) at (c .before .before .before .before .if1 .left))
+returns-3 c = simp (c .doing2 .ensures, sym (c .before .before .before .rate-by .ensures) ∙ c .before .enum-told .given .1, simp (c .before .before .before .before .before .at-limit .ensures) at (c .before .before .before .before .if1 .left))
 
 pub begin-move-spec : {M : Type 1} → statement M
 begin-move-spec =

@@ -1,5 +1,5 @@
+use mathlib.Core.List.{append-nil}
 use Rattle.level_control.specs.Moves.{moveTransition}
-use Rattle.level_control.proofs.AnswerLaws.{packed-coupling}
 use Rattle.level_control.proofs.state.LevelControlState.move_transition.Statement.{
   statement,
 }
@@ -7,7 +7,7 @@ use Rattle.level_control.proofs.state.LevelControlState.move_transition
 
 returns : tie.Need-returns
 unfolding moveTransition
-returns c = simp (c .push-coupling .ensures, c .before .reporting .ensures, c .before .before .with-task .ensures, c .before .before .before .before .before .update-coupled-on-off .ensures, simp (c .before .before .before .before .before .before .before .told-level .ensures, c .before .before .before .before .before .before .before .before .move-ends .ensures) at (c .before .before .before .before .before .before .if1 .taken), c .before .before .before .before .before .before .before .told-level .ensures, c .before .before .before .before .before .before .before .before .move-ends .ensures, packed-coupling)
+returns c = simp (c .then .ensures, c .before .then-coupled .ensures, c .before .before .update-coupled-on-off .ensures, simp (c .before .before .before .before .told-level .ensures, c .before .before .before .before .before .move-ends .ensures) at (c .before .before .before .if1 .taken), c .before .before .before .before .told-level .ensures, c .before .before .before .before .before .move-ends .ensures, append-nil)
 
 returns-2 : tie.Need-returns-2
 unfolding moveTransition
@@ -17,7 +17,6 @@ pub move-transition-spec : {M : Type 1} → statement M
 move-transition-spec =
     tie.close
     (tie.spec
-    (λ c κs. tt)
     (λ c κs. tt)
     (λ c κs. tt)
     (λ c κs. tt)

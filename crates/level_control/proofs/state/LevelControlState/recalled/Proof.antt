@@ -9,7 +9,7 @@ returns c = simp (c .go-to .ensures, c .before .quiet .ensures, c .before .befor
 
 returns-2 : tie.Need-returns-2
 unfolding recalled
-returns-2 c = simp (c .accepted .ensures, c .before .enum-told .given .1)
+returns-2 c = simp (c .doing .ensures, c .before .enum-told .given .1)
 
 pub recalled-spec : {M : Type 1} → statement M
 recalled-spec =

@@ -1,4 +1,5 @@
 use Rattle.level_control.specs.Rest.{startUpAnswered}
+use borrow.Author.Needs.{needs}
 use Rattle.level_control.proofs.state.LevelControlState.start_up_answered.Statement.{
   statement,
 }
@@ -14,17 +15,17 @@ returns-2 c = simp (c .stored-start-up2 .ensures, c .before .enum-told .given .1
 
 returns-3 : tie.Need-returns-3
 unfolding startUpAnswered
-returns-3 c = simp (c .accepted .ensures, c .before .with-task .ensures, c .before .before .enum-told2 .given .1)
+returns-3 c = simp (c .doing .ensures, c .before .with-task .ensures, c .before .before .enum-told2 .given .1)
 
 pub start-up-answered-spec : {M : Type 1} → statement M
 start-up-answered-spec =
     tie.close
     (tie.spec
-    (λ c. c .match .keys1)
+    (λ c. search needs)
     (λ c κs. tt)
-    (λ c. c .match .keys2)
+    (λ c. search needs)
     (λ c κs. tt)
-    (λ c. c .match .keys3)
+    (λ c. search needs)
     (λ c κs. tt)
     (λ c κs. tt)
     returns

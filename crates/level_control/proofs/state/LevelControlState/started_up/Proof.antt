@@ -1,17 +1,16 @@
 use mathlib.Core.Path.{sym, _∙_}
 use Rattle.level_control.specs.Rest.{startedUp}
-use Rattle.level_control.proofs.AnswerLaws.{packed-pushed}
 use borrow.Author.Needs.{needs}
 use Rattle.level_control.proofs.state.LevelControlState.started_up.Statement.{statement}
 use Rattle.level_control.proofs.state.LevelControlState.started_up.Tie as tie
 
 returns : tie.Need-returns
 unfolding startedUp
-returns c = simp (c .push .ensures, c .before .accepted .ensures, c .before .before .with-task .ensures, sym (c .before .before .before .before .before .before .start-up-level .ensures) ∙ c .before .before .before .before .wanted .given .1, packed-pushed)
+returns c = simp (c .doing .ensures, c .before .with-task .ensures, sym (c .before .before .before .before .before .start-up-level .ensures) ∙ c .before .before .before .wanted .given .1)
 
 returns-2 : tie.Need-returns-2
 unfolding startedUp
-returns-2 c = simp (c .accepted2 .ensures, sym (c .before .before .before .start-up-level .ensures) ∙ c .before .enum-told .given .1)
+returns-2 c = simp (c .doing2 .ensures, sym (c .before .before .before .start-up-level .ensures) ∙ c .before .enum-told .given .1)
 
 pub started-up-spec : {M : Type 1} → statement M
 started-up-spec =
@@ -20,8 +19,6 @@ started-up-spec =
     (λ c κs. tt)
     (λ c. search needs)
     (λ c κs. tt)
-    (λ c κs. tt)
-    (λ c. search needs)
     (λ c κs. tt)
     (λ c. search needs)
     (λ c κs. tt)

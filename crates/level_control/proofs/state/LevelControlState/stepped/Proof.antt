@@ -10,11 +10,11 @@ returns c = simp (c .go-to .ensures, c .before .quiet .ensures, c .before .befor
 
 returns-2 : tie.Need-returns-2
 unfolding stepped
-returns-2 c = simp (c .accepted .ensures, sym (c .before .before .before .stepped-time .ensures) ∙ c .before .enum-told .given .1, c .before .before .before .before .before .before .current .given .1)
+returns-2 c = simp (c .doing .ensures, sym (c .before .before .before .stepped-time .ensures) ∙ c .before .enum-told .given .1, c .before .before .before .before .before .before .current .given .1)
 
 returns-3 : tie.Need-returns-3
 unfolding stepped
-returns-3 c = simp (c .accepted2 .ensures, c .before .enum-told2 .given .1)
+returns-3 c = simp (c .doing2 .ensures, c .before .enum-told2 .given .1)
 
 pub stepped-spec : {M : Type 1} → statement M
 stepped-spec =

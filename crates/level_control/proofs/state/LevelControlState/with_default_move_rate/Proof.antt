@@ -1,5 +1,4 @@
 use Rattle.level_control.specs.Rest.{withDefaultMoveRate}
-use Rattle.level_control.proofs.AnswerLaws.{packed-pushed}
 use Rattle.level_control.proofs.state.LevelControlState.with_default_move_rate.Statement.{
   statement,
 }
@@ -7,8 +6,7 @@ use Rattle.level_control.proofs.state.LevelControlState.with_default_mo
 
 returns : tie.Need-returns
 unfolding withDefaultMoveRate
-returns c = simp (c .push .ensures, c .before .accepted .ensures, c .before .before .with-attributes .ensures, packed-pushed)
+returns c = simp (c .doing .ensures, c .before .with-attributes .ensures)
 
 pub with-default-move-rate-spec : {M : Type 1} → statement M
-with-default-move-rate-spec =
-    tie.close (tie.spec (λ c κs. tt) (λ c κs. tt) (λ c κs. tt) returns)
+with-default-move-rate-spec = tie.close (tie.spec (λ c κs. tt) (λ c κs. tt) returns)
