@@ -1,4 +1,6 @@
-// One line for each event of a play, each event in the state that the one before it left.
+// One line for each event of a play, each event in the state that the one before it left, and their text in a lent slice.
+use crate::play::Played;
+use crate::play::Refusal;
 use level_control::answer::Effect;
 use level_control::state::LevelControlState;
 use records::events::EventRead;
@@ -11,6 +13,7 @@ ghost use Prim.Native.Nat.{_+_, _*_, _/_, _≤_};
 ghost use lib.ListN.{length};
 ghost use Rattle.text.specs.Text.{Wrote, most, putInRoom};
 ghost use Rattle.level_control.specs.Answer.{outcomeOf};
+ghost use Rattle.sheet.specs.Play.{fitted, written};
 ghost use Rattle.sheet.specs.Lines.{linesFrom, outcomeLine, outcomesOf, recordOutcome, recordsOf, stateAfter, textOf};
 
 // How far lines reach, and the state that their events leave.
@@ -41,16 +44,23 @@ pub fn put_effect(out: &mut [u8], at: usize, index: u64, effect: Effect) -> usiz
     put_line(out, at, index, effect.number, level, remaining, actions)
 }
 
-// The lines of all events, as far as they fit, and the position past them. What is left over at the end, less than a record, is not read.
-pub fn put_lines(events: &[u8], start: LevelControlState, out: &mut [u8]) -> usize
-    ensures { λ r. ⌜ Wrote (now (out .entry)) 0 (textOf start (now (events .entry))) (now (out .exit)) r ⌝ }
-    ensures { λ r. ⌜ r ≤ 189 * (length (now (events .entry)) / 20) ⌝ }
+// The text at the front of out, or a refusal and out as it was. Where lines as long as they can be have room, they are written at once;
+// else a first pass only counts. What is left over at the end, less than a record, is not read.
+pub fn fit(events: &[u8], start: LevelControlState, out: &mut [u8]) -> Played
+    ensures { λ r. ⌜ (r, now (out .exit)) ≡ fitted (textOf start (now (events .entry))) (now (out .entry)) ⌝ }
+    ensures { λ r. ⌜ written r ≤ 189 * (length (now (events .entry)) / 20) ⌝ }
 {
     if events.len() / 20 <= out.len() / 189 {
         let lines = put_in_room(events, start, 1, out);
-        return lines.at;
+        return Played::Text(lines.at);
     }
-    put_each(events, start, out)
+    let mut none = [0u8; 1];
+    let need = put_each(events, start, &mut none);
+    if out.len() < need {
+        return Played::Refused(Refusal::TextTooLong);
+    }
+    put_each(events, start, out);
+    Played::Text(need)
 }
 
 // Where the longest lines have room; the first has this index.
@@ -80,7 +90,7 @@ fn put_in_room(events: &[u8], start: LevelControlState, first: u64, out: &mut [u
     }
 }
 
-// Each line is made apart, and then written as far as it fits.
+// As far as they fit, and the position past them: each line is made apart, and then written.
 fn put_each(events: &[u8], start: LevelControlState, out: &mut [u8]) -> usize
     ensures { λ r. ⌜ Wrote (now (out .entry)) 0 (textOf start (now (events .entry))) (now (out .exit)) r ⌝ }
     ensures { λ r. ⌜ r ≤ 189 * (length (now (events .entry)) / 20) ⌝ }

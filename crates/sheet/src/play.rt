@@ -1,13 +1,11 @@
 // The C entry: settings, then a line for each event.
-use crate::lines::put_lines;
+use crate::lines::fit;
 use level_control::state::LevelControlState;
 use records::settings::SettingsRead;
 use records::settings::read_settings;
 ghost use mathlib.Core.Path.{_≡_};
-ghost use Prim.Native.Nat.{_*_, _/_, _≤_};
-ghost use lib.ListN.{length};
-ghost use Rattle.sheet.specs.Lines.{textOf};
-ghost use Rattle.sheet.specs.Play.{fitted, lengthOk, playOf, returned, written};
+ghost use Prim.Native.Nat.{_≤_};
+ghost use Rattle.sheet.specs.Play.{lengthOk, playOf, returned, written};
 
 // What a call is refused for; document 01's numbers 1, 2, 3, 4 and 16.
 pub enum Refusal {
@@ -34,25 +32,6 @@ pub fn length_ok(n: usize) -> bool
         return false;
     }
     n % 20 == 0
-}
-
-// The text at the front of out, or a refusal and out as it was. Where lines as long as they can be have room, they are written at once;
-// else a first pass only counts.
-pub fn fit(events: &[u8], start: LevelControlState, out: &mut [u8]) -> Played
-    ensures { λ r. ⌜ (r, now (out .exit)) ≡ fitted (textOf start (now (events .entry))) (now (out .entry)) ⌝ }
-    ensures { λ r. ⌜ written r ≤ 189 * (length (now (events .entry)) / 20) ⌝ }
-{
-    if events.len() / 20 <= out.len() / 189 {
-        let written = put_lines(events, start, out);
-        return Played::Text(written);
-    }
-    let mut none = [0u8; 1];
-    let need = put_lines(events, start, &mut none);
-    if out.len() < need {
-        return Played::Refused(Refusal::TextTooLong);
-    }
-    put_lines(events, start, out);
-    Played::Text(need)
 }
 
 // The sheet at the front of out, or a refusal and out as it was.

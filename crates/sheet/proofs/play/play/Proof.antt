@@ -13,7 +13,7 @@ use Rattle.sheet.proofs.play.play.Reads as reads
 use Rattle.sheet.proofs.play.play.Lts as lts
 use Rattle.level_control.proofs.state.LevelControlState.new.Reads as new-reads
 use Rattle.records.proofs.settings.read_settings.Reads as read-settings-reads
-use Rattle.sheet.proofs.play.fit.Reads as fit-reads
+use Rattle.sheet.proofs.lines.fit.Reads as fit-reads
 use Rattle.sheet.proofs.play.length_ok.Reads as length-ok-reads
 
 -- src/play.rt:63:8
