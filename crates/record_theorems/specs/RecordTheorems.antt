@@ -29,8 +29,8 @@ use Rattle.level_theorems.specs.Replies.{Reply, answersFrom, inTime}
 use Rattle.sheet.specs.Lines as lines
 use Rattle.sheet.specs.Lines.{linesFrom, textOf}
 use Rattle.sheet.specs.Play.{playOf}
-use Rattle.sheet.specs.declared.play.Played.the-variants.{Refused}
-use Rattle.sheet.specs.declared.play.Refusal.{Refusal}
+use Rattle.sheet.specs.declared.lines.Played.the-variants.{Refused}
+use Rattle.sheet.specs.declared.lines.Refusal.{Refusal}
 use Rattle.record_theorems.specs.RecordPlays.{Record, bytesOf, answersOf, answerTo, stateAfter, accepts, seen, onlyOnward, StartsAt}
 
 -- settings that are read from a record

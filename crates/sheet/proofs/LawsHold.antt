@@ -23,10 +23,10 @@ use Rattle.level_control.specs.declared.state.LevelControlState.{LevelControlSt
 use Rattle.sheet.specs.Laws.{Laws}
 use Rattle.sheet.specs.Lines.{recordOutcome, recordsOf, outcomesOf, outcomeLine, linesFrom, textOf}
 use Rattle.sheet.specs.Play.{lengthOk, fitted, playWith, playOf, numberOf, result, returned, refusalText, shown, keyOf, printed}
-use Rattle.sheet.specs.declared.play.Played.{Played}
-use Rattle.sheet.specs.declared.play.Played.the-variants.{Text, Refused}
-use Rattle.sheet.specs.declared.play.Refusal.{Refusal}
-use Rattle.sheet.specs.declared.play.Refusal.the-variants.{RecordWrong, MaxAbove254, MinAboveMax, LightingMin0, TextTooLong}
+use Rattle.sheet.specs.declared.lines.Played.{Played}
+use Rattle.sheet.specs.declared.lines.Played.the-variants.{Text, Refused}
+use Rattle.sheet.specs.declared.lines.Refusal.{Refusal}
+use Rattle.sheet.specs.declared.lines.Refusal.the-variants.{RecordWrong, MaxAbove254, MinAboveMax, LightingMin0, TextTooLong}
 use Rattle.sheet.proofs.SheetLaws.{at-least, at-most, never}
 
 twenties : (n : ℕ) → lengthOk n ≡ true → n % 20 ≡ 0

@@ -16,8 +16,8 @@ use Rattle.level_control.specs.declared.answer.Effect.{Effect}
 use Rattle.level_control.specs.declared.state.LevelControlState.{LevelControlState}
 use Rattle.sheet.specs.Lines.{recordOutcome, recordsOf, outcomesOf, stateAfter, outcomeLine, linesFrom}
 use Rattle.sheet.specs.Play.{fitted, lengthOk}
-use Rattle.sheet.specs.declared.play.Played.the-variants.{Text, Refused}
-use Rattle.sheet.specs.declared.play.Refusal.the-variants.{TextTooLong}
+use Rattle.sheet.specs.declared.lines.Played.the-variants.{Text, Refused}
+use Rattle.sheet.specs.declared.lines.Refusal.the-variants.{TextTooLong}
 
 lines-suc : (k index : ℕ) (s : LevelControlState) (l : List ℕ)
     → linesFrom index (outcomesOf s (recordsOf (suc k) l))

@@ -15,9 +15,9 @@ use Rattle.level_control.specs.State.{newState}
 use Rattle.level_control.specs.declared.state.LevelControlState.{LevelControlState}
 use Rattle.sheet.specs.Lines.{recordOutcome, recordsOf, outcomesOf, outcomeLine, linesFrom, textOf}
 use Rattle.sheet.specs.Play.{lengthOk, playOf, returned, refusalText, keyOf, printed}
-use Rattle.sheet.specs.declared.play.Played.the-variants.{Refused}
-use Rattle.sheet.specs.declared.play.Refusal.{Refusal}
-use Rattle.sheet.specs.declared.play.Refusal.the-variants.{RecordWrong, MaxAbove254, MinAboveMax, LightingMin0, TextTooLong}
+use Rattle.sheet.specs.declared.lines.Played.the-variants.{Refused}
+use Rattle.sheet.specs.declared.lines.Refusal.{Refusal}
+use Rattle.sheet.specs.declared.lines.Refusal.the-variants.{RecordWrong, MaxAbove254, MinAboveMax, LightingMin0, TextTooLong}
 
 pub record Laws : Type 0 where
   -- "play length 20 to 5,120 in twenties"

@@ -12,10 +12,10 @@ use Rattle.records.specs.declared.settings.SettingsRead.{SettingsRead}
 use Rattle.records.specs.declared.settings.SettingsRead.the-variants as read
 use Rattle.level_control.specs.State.{newState}
 use Rattle.sheet.specs.Lines.{textOf}
-use Rattle.sheet.specs.declared.play.Played.{Played}
-use Rattle.sheet.specs.declared.play.Played.the-variants.{Text, Refused}
-use Rattle.sheet.specs.declared.play.Refusal.{Refusal}
-use Rattle.sheet.specs.declared.play.Refusal.the-variants.{RecordWrong, MaxAbove254, MinAboveMax, LightingMin0, TextTooLong}
+use Rattle.sheet.specs.declared.lines.Played.{Played}
+use Rattle.sheet.specs.declared.lines.Played.the-variants.{Text, Refused}
+use Rattle.sheet.specs.declared.lines.Refusal.{Refusal}
+use Rattle.sheet.specs.declared.lines.Refusal.the-variants.{RecordWrong, MaxAbove254, MinAboveMax, LightingMin0, TextTooLong}
 
 -- "play length not 20 to 5,120 in twenties"
 unfoldable pub lengthOk : ℕ → Bool

@@ -1,6 +1,6 @@
 // What the program keysheet prints.
-use crate::play::Played;
-use crate::play::Refusal;
+use crate::lines::Played;
+use crate::lines::Refusal;
 use crate::play::play;
 use text::put;
 use text::put_decimal;

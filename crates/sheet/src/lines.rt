@@ -1,6 +1,4 @@
 // One line for each event of a play, each event in the state that the one before it left, and their text in a lent slice.
-use crate::play::Played;
-use crate::play::Refusal;
 use level_control::answer::Effect;
 use level_control::state::LevelControlState;
 use records::events::EventRead;
@@ -15,6 +13,20 @@ ghost use Rattle.text.specs.Text.{Wrote, most, putInRoom};
 ghost use Rattle.level_control.specs.Answer.{outcomeOf};
 ghost use Rattle.sheet.specs.Play.{fitted, written};
 ghost use Rattle.sheet.specs.Lines.{linesFrom, outcomeLine, outcomesOf, recordOutcome, recordsOf, stateAfter, textOf};
+
+// What a call is refused for; document 01's numbers 1, 2, 3, 4 and 16.
+pub enum Refusal {
+    RecordWrong,
+    MaxAbove254,
+    MinAboveMax,
+    LightingMin0,
+    TextTooLong,
+}
+
+pub enum Played {
+    Text(usize),
+    Refused(Refusal),
+}
 
 // How far lines reach, and the state that their events leave.
 pub struct Lines {

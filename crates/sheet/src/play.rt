@@ -1,4 +1,6 @@
 // The C entry: settings, then a line for each event.
+use crate::lines::Played;
+use crate::lines::Refusal;
 use crate::lines::fit;
 use level_control::state::LevelControlState;
 use records::settings::SettingsRead;
@@ -6,20 +8,6 @@ use records::settings::read_settings;
 ghost use mathlib.Core.Path.{_≡_};
 ghost use Prim.Native.Nat.{_≤_};
 ghost use Rattle.sheet.specs.Play.{lengthOk, playOf, returned, written};
-
-// What a call is refused for; document 01's numbers 1, 2, 3, 4 and 16.
-pub enum Refusal {
-    RecordWrong,
-    MaxAbove254,
-    MinAboveMax,
-    LightingMin0,
-    TextTooLong,
-}
-
-pub enum Played {
-    Text(usize),
-    Refused(Refusal),
-}
 
 // 20 to 5,120 bytes in twenties.
 pub fn length_ok(n: usize) -> bool
