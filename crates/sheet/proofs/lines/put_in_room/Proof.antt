@@ -1,4 +1,4 @@
-use Prim.Native.Nat.{ℕ, _+_, _*_, _≤_}
+use Prim.Native.Nat.{ℕ, _+_, _*_, _<_, _≤_}
 use mathlib.Core.List.{List}
 use mathlib.Core.Path.{_≡_, refl, sym, ap, _∙_}
 use native.Mathlib.Omega.{arith}
@@ -65,7 +65,8 @@ loop-again c =
     let events = start .args .events .now in
     let effect = played .record-event .result in
     let given = record-played (head .state) (head .from) events effect (played .record-event .ensures) in
-    let room : head .at + 189 ≤ length (head .out) = omega (arith, turn .loop-test .taken) in
+    let left : 0 < head .left = omega (arith, turn .loop-test .taken) in
+    let room : head .at + 189 ≤ length (head .out) = omega (arith, left) in
     let fits : length (head .out) ≤ most = omega (arith, start .good, head .inv .0) in
     let wrote = room-wrote _ _ _ (room-length _ _ _ room (put .put-effect .ensures .1) (put .put-effect .ensures .0)) room fits (put .put-effect .ensures .0) in
     let line-is = ap (λ (o : Outcome). outcomeLine (head .index) o) given in
@@ -75,8 +76,8 @@ loop-again c =
       omega arith,
       omega arith,
       omega (arith, put .put-effect .ensures .1),
-      λ new r w. head .inv .5 new r (turn-more (head .left) (head .index) (head .from) (head .state) _ events _ fits (turn .loop-test .taken) line-is state-is wrote w),
-      head .inv .6 ∙ state-more (head .left) (head .from) (head .state) _ events (turn .loop-test .taken) state-is,
+      λ new r w. head .inv .5 new r (turn-more (head .left) (head .index) (head .from) (head .state) _ events _ fits left line-is state-is wrote w),
+      head .inv .6 ∙ state-more (head .left) (head .from) (head .state) _ events left state-is,
     )
 
 same-length : tie.Need-same-length Inv-loop μ-loop
@@ -85,9 +86,10 @@ same-length c = c .before .loop .inv .0
 returns : tie.Need-returns Inv-loop μ-loop
 returns c =
     let end = c .before .loop in
+    let none : end .left ≤ 0 = omega (arith, c .loop-test .left) in
     let rest = drop (end .from) (c .before .before .before .before .args .events .now) in (
-      end .inv .5 _ _ (none-left (end .left) (end .index) (end .state) rest _ _ (c .loop-test .left) (omega arith)),
-      (omega arith, sym (end .inv .6 ∙ none-after (end .left) (end .state) rest (c .loop-test .left))),
+      end .inv .5 _ _ (none-left (end .left) (end .index) (end .state) rest _ _ none (omega arith)),
+      (omega arith, sym (end .inv .6 ∙ none-after (end .left) (end .state) rest none)),
     )
 
 pub put-in-room-spec : {M : Type 1} → statement M
