@@ -24,10 +24,6 @@ done s l = record { number = 0; state = s; actions = l }
 abbrev pub refused : LevelControlState → ℕ → Outcome
 refused s n = record { number = n; state = s; actions = [] }
 
--- the same outcome with more actions
-abbrev pub more : Outcome → List Action → Outcome
-more o l = record { number = o .number; state = o .state; actions = o .actions ++ l }
-
 -- an outcome as the code hands it on: its actions by their places
 unfoldable pub outcomeOf : Effect → Outcome
 outcomeOf e = record { number = e .number; state = e .state; actions = actionsOf (e .actions) }
