@@ -1,4 +1,4 @@
--- "Causes and numbers" of document 01, cause by cause: which events in which states each meets. The machine uses nothing of this page.
+-- "Causes and numbers" of document 01 from 5 on: 5 to 9 cause by cause, 10 to 14 and the options by the kinds that they may meet. The machine uses nothing of this page.
 use Prim.Native.Nat.{ℕ, _*_}
 use mathlib.Core.Bool.{Bool, true, false, not, _&&_, _||_}
 use mathlib.Core.List.{List, [], _∷_}
@@ -72,7 +72,7 @@ waitOver (task.Fade f) now = ended (f .phase) now
 waitOver (task.Move m) now = ended (m .phase) now
 waitOver (task.OnReaction r) now = false
 
--- a step that is cut short, and its time times its actual size is above 65,535
+-- a step with a known time whose size came out different, and its time times its actual size is above 65,535
 abbrev pub productTooLarge : Level → Time → LevelControlState → StepRequest → Bool
 productTooLarge (Known c) (time.Known t) s r =
     let actual = distance (stepTo (r .mode) s c (r .«step_size»)) c in

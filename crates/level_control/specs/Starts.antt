@@ -1,5 +1,5 @@
 -- Demand 3: which fade an accepted event starts, written from parts 6, 9 and 10 of document 01. The machine does not use these
--- definitions; `every-fade-covered` says that they agree with it.
+-- definitions; `every_fade_is_covered` says that they agree with it.
 use Prim.Native.Nat.{ℕ, _+_, _-_, _*_, _/_, min, max}
 use mathlib.Core.Bool.{Bool, true, false, cond, not, _||_}
 use lib.Dec.{leb, eqb}
@@ -27,11 +27,11 @@ abbrev pub startFrom : Level → ℕ → ℕ → Start
 startFrom (Known c) t T = cond (eqb c t) NoFade (Fades c t T)
 startFrom Missing t T = NoFade
 
--- part 6: "255 is kept, unclamped. Lower targets: clamped to MIN..MAX"
+-- part 6: "255 is kept, unclamped"; "Lower targets: options, then clamped to MIN..MAX"
 abbrev pub target : LevelControlState → ℕ → ℕ
 target s level = cond (leb 255 level) level (min (s .settings .«max_level») (max (s .settings .«min_level») level))
 
--- the options let a command pass; those of a target of 255 are not looked at
+-- the options let a command pass (of a target of 255 nobody asks, below)
 abbrev pub passes : LevelControlState → Bool → Bool → OptionsBitmap → OptionsBitmap → Bool
 passes s withOnOff on mask override = executes withOnOff (s .settings .coupled) on (s .attributes .options .0) (mask .0) (override .0)
 

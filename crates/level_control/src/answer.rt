@@ -21,9 +21,9 @@ pub struct Answer {
 
 // The actions by their places. An array would have to be copied with the state at every step on the way.
 pub struct Effect {
+    pub actions: Actions,
     pub number: u8,
     pub state: LevelControlState,
-    pub actions: Actions,
 }
 
 impl Effect {

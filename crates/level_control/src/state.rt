@@ -12,14 +12,14 @@ ghost use Rattle.level_control.specs.State.{accept, newState, putBack, w
 pub struct LevelControlState {
     pub settings: Settings,
     pub attributes: Attributes,
-    pub current_level: Level,
     // An event was accepted: start-up comes too late.
     pub started: bool,
     pub remaining_time: Tenths,
+    pub last_accepted: Micros,
+    pub current_level: Level,
     // The level before the last answer or update, as the source notes it; no rule reads it.
     pub previous_current_level: Level,
     pub last_current_level_notification: Micros,
-    pub last_accepted: Micros,
     pub task: Task,
 }
 

@@ -17,7 +17,7 @@ use Rattle.level_control.specs.Reports.{writeRemainingTime, levelDue, setLevel,
 use Rattle.level_control.specs.Targets.{goTo, movedToLevel, steppedLevel, steppedTime, stepped, recalled}
 use Rattle.level_control.specs.Fades.{fadeCoupling, fadeStored, fadeTold, restored, fadeEnded, fadeGoesOn, moveToLevelTransition, fadeAnswered, fadeWoken}
 use Rattle.level_control.specs.Reactions.{onTime, offTime, turnedOn, onGoesOn, onAnswered, turnedOff, switched}
-use Rattle.level_control.specs.Causes.{timeRefused, turnTests, moveToLevelTests, moveTests, stepOverflows, stepTests, sceneTests, levelTests, commandTestsOf}
+use Rattle.level_control.specs.Causes.{timeRefused, turnTests, moveToLevelTests, moveTests, stepOverflows, stepTests, sceneTests, levelTests, rateTests, commandTestsOf}
 use Rattle.level_control.specs.Events.{answered, woken, run, numberOf, eventOf}
 use Rattle.level_control.specs.Run.{next}
 use Rattle.level_control.specs.Starts.{startOf, onStart}
@@ -27,17 +27,22 @@ use Rattle.transitions.specs.Moves.{movePeriod}
 use Rattle.matter.specs.Parts.{Parts}
 
 pub parts : Parts
-unfolding accept atLimit moveTests nextMove answered beginFade beginMove commandTestsOf continues coupledBy coupledOnOff currentLevelDue eventOf executes fadeAnswered fadeAsking fadeCoupling fadeEnded fadeFrom fadeGoesOn fadePeriod fadeStored fadeTold fadeWaiting fadeWoken firstCause goTo isTransitionStart leavesMin levelDue levelOr levelTests levelToRestore moveAnswered moveEnds moveGoesOn movePeriod moveThen moveToLevelTests moveToLevelTransition moveTransition movedToLevel newState next nextLevel numberOf offTime onAnswered onGoesOn onStart onTime rateBy rateInForce recalled remainingAfter remainingTimeDue reportsOf restored run sameLevel scaledFloor sceneTests setLevel shouldContinue startOf startUpLevel startedUp stepLevel stepOverflows stepTests stepTime stepped steppedLevel steppedTime switched targetLevel timeOr timeRefused toldLevel turnTests turnedOff turnedOn waitOrAsk withAnswered withLevel withRemainingTime withTask woken writeRemainingTime
+unfolding accept atLimit moveTests nextMove answered beginFade beginMove commandTestsOf continues coupledBy coupledOnOff currentLevelDue eventOf executes fadeAnswered fadeAsking fadeCoupling fadeEnded fadeFrom fadeGoesOn fadePeriod fadeStored fadeTold fadeWaiting fadeWoken firstCause goTo isTransitionStart leavesMin levelDue levelOr levelTests levelToRestore moveAnswered moveEnds moveGoesOn movePeriod moveThen moveToLevelTests moveToLevelTransition moveTransition movedToLevel newState next nextLevel numberOf offTime onAnswered onGoesOn onStart onTime rateBy rateInForce rateTests recalled remainingAfter remainingTimeDue reportsOf restored run sameLevel scaledFloor sceneTests setLevel shouldContinue startOf startUpLevel startedUp stepLevel stepOverflows stepTests stepTime stepped steppedLevel steppedTime switched targetLevel timeOr timeRefused toldLevel turnTests turnedOff turnedOn waitOrAsk withAnswered withLevel withRemainingTime withTask woken writeRemainingTime
 parts = record {
   level-255 = (refl, refl);
   missing-time = (refl, refl);
   remaining-at-start = (refl, refl);
   remaining-in-move = refl;
   coupled-late = (refl, refl);
+  coupled-below-min = refl;
   off-from-missing = refl;
+  off-time = (refl, refl);
   step-product = (refl, refl);
   step-from-outside = refl;
+  move-from-outside = refl;
   on-level-255 = (refl, refl);
-  start-up-outside = refl;
+  start-up-outside = (refl, refl);
+  set-start-up-0 = (refl, refl);
+  set-rate-0 = refl;
   scene-while-off = (refl, refl);
 }

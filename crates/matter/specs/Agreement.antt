@@ -1,13 +1,11 @@
 -- Where the machine does what the Matter document says of whole commands: for every state, on the inputs that each line names.
-use Prim.Native.Nat.{ℕ, _*_, _≤_, _<_}
+use Prim.Native.Nat.{ℕ, _≤_}
 use mathlib.Core.Bool.{Bool, true, false}
 use mathlib.Core.Path.{_≡_}
 use mathlib.Core.Logic.{_⊎_}
 use mathlib.Core.List.{List, [], _∷_}
-use Rattle.units.specs.Numbers.{apart}
-use Rattle.units.specs.declared.Micros.{Micros}
 use Rattle.units.specs.declared.Tenths.{Tenths}
-use Rattle.transitions.specs.Matter.{executes, moveRate}
+use Rattle.transitions.specs.Matter.{executes}
 use Rattle.transitions.specs.Tasks.{fadeLast}
 use Rattle.transitions.specs.declared.events.DeviceAnswer.the-variants as device
 use Rattle.transitions.specs.declared.events.Event.{Event}
@@ -97,12 +95,12 @@ pub record Agreement : Type 0 where
       → InRange (s .attributes .«start_up_current_level») (s .settings .«min_level») (s .settings .«max_level»)
       → startUp (s .attributes .«start_up_current_level») (s .settings .«min_level») (s .«current_level») ≡ Known level
       → asks (eventOf s e .actions) ≡ level ∷ []
-  -- Stop, past the Options processing: what ran is terminated, and no time remains
+  -- Stop, past the Options processing: what ran is terminated, and no time remains [general]
   pub stop : (s : LevelControlState) (e : Event) (r : StopRequest)
       → e .kind ≡ kind.Stop r → accepted s e ≡ true → passes s e (r .«with_on_off») (r .«options_mask») (r .«options_override») ≡ true
       → (eventOf s e .state .task ≡ task.Rest) × (eventOf s e .state .«remaining_time» .0 ≡ 0) × (eventOf s e .state .«current_level» ≡ s .«current_level»)
-  -- Move, past the Options processing, from a level within MIN..MAX, MAX at most 254: the next level towards the limit is asked for, at the rate in force to the
-  -- nearest tick; at the limit nothing is
+  -- Move, past the Options processing, from a level within MIN..MAX, MAX at most 254: the next level towards the limit is asked for;
+  -- at the limit nothing is
   pub move-asks : (s : LevelControlState) (e : Event) (r : MoveRequest) (c : ℕ)
       → e .kind ≡ kind.Move r → accepted s e ≡ true → passes s e (r .«with_on_off») (r .«options_mask») (r .«options_override») ≡ true
       → s .«current_level» ≡ Known c → s .settings .«min_level» ≤ c → c ≤ s .settings .«max_level» → s .settings .«max_level» ≤ 254

@@ -1,10 +1,10 @@
 -- What the Matter Application Cluster Specification, Level Control (revision 6), says of whole commands, in our words and without our definitions: it
 -- goes on from the rules in transitions/specs/Matter.antt. The document itself was not at hand. Each definition is marked:
 --   [source]   quoted in the comments of the source, level_control.rs
---   [told]     told by document 01 or by the list of disagreements that we were given
+--   [told]     told by document 01 or by a list of known disagreements
 --   [general]  general knowledge, not checked against the text
 -- docs/DIFFERENCES.md has a row for each disagreement.
-use Prim.Native.Nat.{ℕ, _*_, _/_}
+use Prim.Native.Nat.{ℕ, _-_, _*_, _/_}
 use mathlib.Core.Bool.{Bool, true, false, cond}
 use lib.Dec.{ltb, eqb}
 use Rattle.units.specs.Numbers.{apart}
@@ -37,7 +37,7 @@ abbrev pub orElse : Time → ℕ → ℕ
 orElse (time.Known t) other = t .0
 orElse time.Missing other = other
 
--- "MoveToLevel Command": a level above 254 is INVALID_COMMAND [source]; past the Options processing, from CurrentLevel to Level, in TransitionTime or, where
+-- "MoveToLevel Command": a level above 254 is INVALID_COMMAND [told]; past the Options processing, from CurrentLevel to Level, in TransitionTime or, where
 -- that is null, in OnOffTransitionTime [told]
 abbrev pub moveToLevel : Bool → ℕ → ℕ → ℕ → ℕ → Time → ℕ → Effect
 moveToLevel executed min max current level given onOffTime =
@@ -76,6 +76,11 @@ afterOn Missing Missing min max given onOffTime = None
 -- "Off": CurrentLevel is stored and goes to the minimum in OffTransitionTime or, where that is null, in OnOffTransitionTime [source]
 abbrev pub off : ℕ → ℕ → Time → ℕ → Effect
 off current min given onOffTime = goes current min (orElse given onOffTime)
+
+-- "OnTransitionTime", "OffTransitionTime": "the time taken to move the current level from the minimum level to the maximum level", and back [source]. To the letter
+-- a shorter way takes its part of it; above they are taken for the whole way, as document 01 takes them
+abbrev pub partOfTime : ℕ → ℕ → ℕ → ℕ → ℕ
+partOfTime min max way time = time * way / (max - min)
 
 -- and then, "if OnLevel is not defined, set the CurrentLevel to the stored level" [source]; else it stays where the device is
 abbrev pub afterOff : Level → ℕ → ℕ → ℕ

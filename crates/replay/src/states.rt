@@ -1,14 +1,18 @@
-// The sheet of a play with the whole state after each line (oracle/README.md, "A port").
+// The sheet of a play with the whole state after each line (oracle/README.md, "A port"). Its lines are made from the answers of
+// `event`, as a caller of it gets them: the actions in their array. The sheet itself is written from their places.
+use level_control::answer::Answer;
 use level_control::answer::Effect;
 use level_control::state::LevelControlState;
 use libc::STDOUT_FILENO;
+use records::events::EventRead;
+use records::events::read_event;
 use records::settings::SettingsRead;
 use records::settings::read_settings;
 use sheet::key::key_sheet;
-use sheet::lines::put_effect;
-use sheet::lines::record_event;
 use sheet::play::length_ok;
 use text::front;
+use transitions::events::Action;
+use transitions::events::ActionKind;
 use transitions::types::Level;
 use transitions::types::Rate;
 use transitions::types::Time;
@@ -16,6 +20,15 @@ use transitions::types::Time;
 fn print_number(n: u64) {
     io::write_all(STDOUT_FILENO, b" ");
     io::print_decimal(STDOUT_FILENO, n);
+}
+
+fn print_word(word: &[u8]) {
+    io::write_all(STDOUT_FILENO, word);
+}
+
+fn print_valued(letter: &[u8], value: u64) {
+    io::write_all(STDOUT_FILENO, letter);
+    io::print_decimal(STDOUT_FILENO, value);
 }
 
 fn print_missing() {
@@ -64,11 +77,50 @@ fn print_state(state: LevelControlState) {
     io::write_all(STDOUT_FILENO, b"\n");
 }
 
-fn print_effect(index: u64, effect: Effect) {
-    let mut line = [0u8; 189];
-    let k = front(put_effect(&mut line, 0, index, effect), &line);
-    io::write_all(STDOUT_FILENO, &line[..k]);
-    print_state(effect.state);
+fn print_action(action: Action) {
+    let kind = action.kind;
+    match kind {
+        ActionKind::D => print_valued(b" D", action.value),
+        ActionKind::P => print_word(b" P"),
+        ActionKind::S => print_word(b" S"),
+        ActionKind::C => print_valued(b" C", action.value),
+        ActionKind::L => print_word(b" L"),
+        ActionKind::R => print_word(b" R"),
+        ActionKind::W => print_valued(b" W", action.value),
+        ActionKind::E => print_valued(b" E", action.value),
+        ActionKind::K => print_word(b" K"),
+        ActionKind::X => print_word(b" X"),
+    }
+}
+
+fn print_actions(actions: [Action; 7], count: usize) {
+    let mut i = 0;
+    while i < 7 {
+        if i < count {
+            print_action(actions[i]);
+        }
+        i += 1;
+    }
+}
+
+fn print_answer(index: u64, answer: Answer) {
+    let state = answer.state;
+    let level = state.current_level;
+    let actions = answer.actions;
+    io::print_decimal(STDOUT_FILENO, index);
+    print_number(answer.number as u64);
+    print_level(level);
+    print_number(state.remaining_time.0 as u64);
+    print_actions(actions, answer.count);
+    io::write_all(STDOUT_FILENO, b"\n");
+    print_state(state);
+}
+
+fn record_answer(state: LevelControlState, bytes: &[u8]) -> Answer {
+    match read_event(bytes) {
+        EventRead::Event(event) => state.event(event),
+        EventRead::RecordWrong => Answer::of(Effect::refused(state, 1)),
+    }
 }
 
 fn print_events(events: &[u8], start: LevelControlState) {
@@ -77,9 +129,9 @@ fn print_events(events: &[u8], start: LevelControlState) {
     let mut index = 1;
     let mut left = events.len() / 20;
     while 0 < left {
-        let effect = record_event(state, &events[from..from + 20]);
-        print_effect(index, effect);
-        state = effect.state;
+        let answer = record_answer(state, &events[from..from + 20]);
+        print_answer(index, answer);
+        state = answer.state;
         from += 20;
         index += 1;
         left -= 1;

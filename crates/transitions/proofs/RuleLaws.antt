@@ -19,6 +19,7 @@ use Rattle.transitions.specs.RemainingTime.{remainingTimeDue}
 use Rattle.transitions.specs.Options.{shouldContinue}
 use Rattle.transitions.specs.CurrentLevel.{currentLevelDue}
 use Rattle.transitions.specs.Coupling.{coupledOnOff, coupledValues}
+use Rattle.transitions.specs.Events.{act, actCoupled}
 use Rattle.transitions.specs.Commands.{targetLevel, stepTime, stepTimeNumber, rateInForce, moveRateNumber}
 use Rattle.transitions.specs.Fade.{remainingAfter, nextLevel, waitOrAsk}
 use Rattle.transitions.specs.Fade as fade
@@ -32,7 +33,9 @@ use Rattle.transitions.specs.declared.types.Rate.{Rate}
 use Rattle.transitions.specs.declared.types.Time.the-variants as time
 use Rattle.transitions.specs.declared.types.OptionsBitmap.{OptionsBitmap}
 use Rattle.transitions.specs.declared.causes.Tests.{Tests}
+use Rattle.transitions.specs.declared.coupling.Coupling.{Coupling}
 use Rattle.transitions.specs.declared.coupling.Coupling.the-variants.{Sent, NotSent}
+use Rattle.transitions.specs.declared.events.ActionKind.the-variants.{C}
 use Rattle.transitions.specs.declared.commands.StepTime.the-variants.{Takes, Overflow}
 use Rattle.transitions.specs.declared.commands.MoveRate.the-variants.{Goes, InvalidCommand}
 use Rattle.transitions.specs.declared.fade.Next.the-variants.{Wait, Ask}
@@ -151,6 +154,10 @@ coupling : (w c on : Bool) (min level v : ℕ)
     → (coupledValues (coupledOnOff w c on min level) ≡ v ∷ []) ↔ ((w ≡ true) × (c ≡ true) × Differs on min level v)
 unfolding coupledOnOff
 coupling w c on min level v = sent w c (ltb min level) on min level v refl
+
+coupling-action : (c : Coupling) (v : ℕ) → (coupledValues c ≡ v ∷ [] → actCoupled c ≡ act C v) × (coupledValues c ≡ [] → actCoupled c ≡ [])
+coupling-action (Sent wanted) v = (λ h. ap (act C) (one-is (cond wanted 1 0) v h), λ h. absurd (none-is-not-one (cond wanted 1 0) (sym h)))
+coupling-action NotSent v = (λ h. absurd (none-is-not-one v h), λ h. refl)
 
 -- Part 6
 
@@ -372,6 +379,7 @@ rule-laws = record {
   end-report = end-report;
   missing-report = missing-report;
   coupling = coupling;
+  coupling-action = coupling-action;
   target-255 = λ lo hi. (target-kept 255 lo hi (omega arith), refl);
   target-held = λ level lo hi h g. rw (target-clamped level lo hi h) (omega arith, omega arith);
   target-stays = λ level lo hi h g k. rw (target-clamped level lo hi h) (omega arith);

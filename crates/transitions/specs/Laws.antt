@@ -1,4 +1,5 @@
--- The rules in document 01's own words: laws for every value, by which the definitions of this folder can be believed.
+-- The rules in document 01's own words: laws for every value, by which the definitions of this folder can be believed. Where a law speaks of
+-- a part of a definition by its name (a bit, a row of the table, a pair that decides), that part is to be read beside document 01.
 use Prim.Native.Nat.{ℕ, _/_, _+_, _-_, _*_, _≤_, _<_}
 use mathlib.Core.Bool.{Bool, true, false}
 use mathlib.Core.Path.{_≡_}
@@ -11,7 +12,7 @@ use Rattle.units.specs.declared.Millis.{Millis}
 use Rattle.units.specs.declared.Micros.{Micros}
 use Rattle.transitions.specs.Search.{NoneOf, First}
 use Rattle.transitions.specs.Types.{executesIfOff, rateOr, sameLevel, isOutside, isZeroRate}
-use Rattle.transitions.specs.Events.{turnOf, turnCauses}
+use Rattle.transitions.specs.Events.{act, actCoupled, turnOf, turnCauses}
 use Rattle.transitions.specs.RemainingTime.{remainingTimeDue}
 use Rattle.transitions.specs.Options.{shouldContinue}
 use Rattle.transitions.specs.CurrentLevel.{currentLevelDue}
@@ -35,6 +36,8 @@ use lib.ListN.{length, take}
 use Rattle.transitions.specs.ActionList.{actionsOf, listOf}
 use Rattle.transitions.specs.declared.«action_list».Actions.{Actions}
 use Rattle.transitions.specs.declared.causes.Tests.{Tests}
+use Rattle.transitions.specs.declared.coupling.Coupling.{Coupling}
+use Rattle.transitions.specs.declared.events.ActionKind.the-variants.{C}
 use Rattle.transitions.specs.declared.events.DeviceAnswer.{DeviceAnswer}
 use Rattle.transitions.specs.declared.events.EventKind.{EventKind}
 use Rattle.transitions.specs.declared.events.EventKind.the-variants as kind
@@ -74,7 +77,7 @@ pub record Laws : Type 0 where
       → (shouldContinue withOnOff coupled on options mask override ≡ false)
       ↔ ((withOnOff ≡ false) × (coupled ≡ true) × (on ≡ false)
       × (((executesIfOff mask ≡ true) × (executesIfOff override ≡ false)) ⊎ ((executesIfOff mask ≡ false) × (executesIfOff options ≡ false))))
-  -- Part 4: a level report that is no end and has no missing level comes exactly when the gap or more has passed since the last-report time
+  -- Part 4: a level report that is no end and has no missing level comes exactly when the gap, which is not 0, or more has passed since the last-report time
   pub level-report : (gap last now : Micros) (old new : ℕ) → 1 ≤ gap .0
       → (currentLevelDue gap last now false (Known old) (Known new) ≡ true) ↔ (last .0 + gap .0 ≤ now .0)
   -- an end, an old level that is missing and a new one that is missing are each ground enough
@@ -86,7 +89,9 @@ pub record Laws : Type 0 where
       → (coupledValues (coupledOnOff withOnOff coupled on min level) ≡ v ∷ [])
       ↔ ((withOnOff ≡ true) × (coupled ≡ true)
       × (((v ≡ 1) × (min < level) × (on ≡ false)) ⊎ ((v ≡ 0) × (level ≤ min) × (on ≡ true))))
-  -- Part 6: 255 stays 255 and the options are not looked at; a lower target lies within MIN..MAX, and is as it was if it lay there
+  -- and the action is that C v, or none
+  pub coupling-action : (c : Coupling) (v : ℕ) → (coupledValues c ≡ v ∷ [] → actCoupled c ≡ act C v) × (coupledValues c ≡ [] → actCoupled c ≡ [])
+  -- Part 6: 255 stays 255 and the options are not looked at; a lower target lies within MIN..MAX, MIN being no more than MAX, and is as it was if it lay there
   pub target-255 : (lo hi : ℕ) → (targetLevel 255 lo hi ≡ 255) × (consultsOptions 255 ≡ false)
   pub target-held : (level lo hi : ℕ) → level ≤ 254 → lo ≤ hi → (lo ≤ targetLevel level lo hi) × (targetLevel level lo hi ≤ hi)
   pub target-stays : (level lo hi : ℕ) → level ≤ 254 → lo ≤ level → level ≤ hi → targetLevel level lo hi ≡ level
@@ -100,7 +105,7 @@ pub record Laws : Type 0 where
       → (level + size ≤ hi → stepLevel Up level size lo hi ≡ level + size) × (hi ≤ level + size → stepLevel Up level size lo hi ≡ hi)
   pub step-down : (level size lo hi : ℕ)
       → (lo + size ≤ level → stepLevel Down level size lo hi + size ≡ level) × (level ≤ lo + size → stepLevel Down level size lo hi ≡ lo)
-  -- a step's time T′: size·T′ ≤ given·actual < size·(T′ + 1)
+  -- the time T′ of a step that is not refused: size·T′ ≤ given·actual < size·(T′ + 1)
   pub step-time : (given actual size : ℕ) (t : Tenths) → 1 ≤ size → stepTime (time.Known (tenths given)) actual size ≡ Takes t
       → (size * t .0 ≤ given * actual) × (given * actual < size * (t .0 + 1))
   -- 12 exactly if the size came out different and the product is above 65,535; a missing time is 0, and never 12
@@ -115,14 +120,14 @@ pub record Laws : Type 0 where
   -- Part 7: n·p ≤ 100·T < n·(p + 1)
   pub fade-period : (time : Tenths) (n : ℕ) → 1 ≤ n
       → (n * fadePeriod time n .0 ≤ 100 * time .0) × (100 * time .0 < n * (fadePeriod time n .0 + 1))
-  -- the remaining time falls by the period, and is 0 at the end
+  -- the remaining time falls by the period, where it is as long, and is 0 at the end
   pub remaining-falls : (remaining period : Millis) → period .0 ≤ remaining .0 → remainingAfter remaining period false .0 + period .0 ≡ remaining .0
   pub remaining-ends : (remaining period : Millis) → remainingAfter remaining period true .0 ≡ 0
   -- a counter that is not at its target moves by one, and comes nearer; with time 0 it is there at once
   pub counter-moves : (counter target : ℕ) (time : Tenths) → 1 ≤ time .0 → (counter ≡ target → ⊥)
       → (apart counter (nextLevel counter target time) ≡ 1) × (apart (nextLevel counter target time) target + 1 ≡ apart counter target)
   pub counter-jumps : (counter target : ℕ) → nextLevel counter target (tenths 0) ≡ target
-  -- W: it waits until the request's time and the period exactly if the period is at least the answer's time less the request's; else no W
+  -- W: it waits until the request's time and the period, whose sum 64 bits hold, exactly if the period is at least the answer's time less the request's; else no W
   pub waits : (asked answered period : Micros) (until : ℕ) → asked .0 + period .0 ≤ 18446744073709551615
       → (fade.waits (waitOrAsk asked answered period) ≡ until ∷ []) ↔ ((answered .0 - asked .0 ≤ period .0) × (until ≡ asked .0 + period .0))
   pub asks : (asked answered period : Micros)
@@ -144,11 +149,11 @@ pub record Laws : Type 0 where
       → (rate * movePeriod rate .0 ≤ 1000000 + rate / 2) × (1000000 + rate / 2 < rate * (movePeriod rate .0 + 1))
   -- E 11 exactly from a missing level
   pub move-11 : (level : Level) (mode : Mode) → (moveStepNumber (nextMove level mode) ≡ 11) ↔ (level ≡ Missing)
-  -- it "steps from the stored level", by one, up or down, and ends exactly if it would pass 255 or 0
+  -- it "steps from the stored level", by one, up or down; without a request it ends, exactly if it would pass 255 or 0
   pub move-up : (c asked : ℕ) → (moveStepRequests (nextMove (Known c) Up) ≡ asked ∷ []) ↔ ((asked ≡ c + 1) × (asked ≤ 255))
   pub move-down : (c asked : ℕ) → (moveStepRequests (nextMove (Known c) Down) ≡ asked ∷ []) ↔ (asked + 1 ≡ c)
   pub move-passes : (c : ℕ) → ((nextMove (Known c) Up ≡ Ends) ↔ (255 < c + 1)) × ((nextMove (Known c) Down ≡ Ends) ↔ (c < 1))
-  -- it ends exactly if the asked level is MIN or MAX
+  -- after a request it ends exactly if the asked level is MIN or MAX
   pub move-end : (asked lo hi : ℕ) → (isMoveEnd asked lo hi ≡ true) ↔ ((asked ≡ lo) ⊎ (asked ≡ hi))
   -- nothing happens exactly at MIN going down or at MAX going up
   pub at-limit : (level : Level) (mode : Mode) (lo hi : ℕ)

@@ -7,7 +7,6 @@ use Prim.Native.Nat.{ℕ, zero, suc, _+_, _-_, _*_, _/_, _%_, _^_, _≤_, _<_}
 use mathlib.Core.Bool.{Bool, true, false, cond, _&&_, _||_, not, Bool·beq}
 use mathlib.Core.Path.{_≡_}
 use lib.Dec.{ltb, leb, eqb}
-use Rattle.units.specs.Numbers.{apart}
 use Rattle.units.specs.Units.{tenths, micros}
 use Rattle.units.specs.declared.Micros.{Micros}
 use Rattle.units.specs.declared.Tenths.{Tenths}
@@ -115,12 +114,12 @@ pub record Agreement : Type 0 where
   -- a step's level: wherever the level lies within MIN..MAX
   pub step-up : (level size lo hi : ℕ) → level ≤ hi → IsLevel hi → stepLevel Up level size lo hi ≡ increased size level hi
   pub step-down : (level size lo hi : ℕ) → lo ≤ level → stepLevel Down level size lo hi ≡ decreased size level lo
-  -- a step's time: wherever the step is not refused
+  -- a step's time: wherever the step is not refused (a step that is lengthened too, of which the document does not speak)
   pub step-time : (given actual size : ℕ) (t : Tenths) → 1 ≤ size → stepTime (time.Known (tenths given)) actual size ≡ Takes t
       → ProportionallyReduced given actual size (t .0)
   -- the refusal of a large product, which the document does not have: 40,000 tenths by 2 of 3 levels
   pub step-time-parts : (stepTime (time.Known (tenths 40000)) 2 3 ≡ Overflow) × ProportionallyReduced 40000 2 3 26666
-  -- a move's rate: everywhere; a rate of 0 is refused, wherever it comes from
+  -- a move's rate, where it is not 0; a rate of 0 is refused, wherever it comes from
   pub rate : (given default : Rate) (fastest : ℕ) → 1 ≤ moveRate given default fastest
       → rateInForce given default fastest ≡ Goes (moveRate given default fastest)
   pub rate-parts : (given default : Rate) (fastest : ℕ) → moveRate given default fastest ≡ 0 → rateInForce given default fastest ≡ InvalidCommand

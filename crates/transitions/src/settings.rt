@@ -8,22 +8,22 @@ use units::Tenths;
 
 // The attributes that events can set, and a reset puts back.
 pub struct Attributes {
-    pub on_level: Level,
     pub options: OptionsBitmap,
-    pub on_off_transition_time: Tenths,
-    pub on_transition_time: Time,
-    pub off_transition_time: Time,
     pub default_move_rate: Rate,
     pub start_up_current_level: Level,
+    pub on_off_transition_time: Tenths,
+    pub on_transition_time: Time,
+    pub on_level: Level,
+    pub off_transition_time: Time,
 }
 
 // What was configured: the source's associated constants of the hooks.
 pub struct Settings {
+    pub fastest_rate: u8,
+    pub attributes: Attributes,
+    pub coupled: bool,
     pub min_level: u8,
     pub max_level: u8,
-    pub coupled: bool,
-    pub fastest_rate: u8,
     pub lighting: bool,
     pub current_level: Level,
-    pub attributes: Attributes,
 }

@@ -51,8 +51,8 @@ pub struct MoveCourse {
 // A move at a rate: the source's move_transition.
 pub struct Move {
     pub phase: Phase,
-    pub course: MoveCourse,
     pub asked: u8,
+    pub course: MoveCourse,
 }
 
 // The reaction to on, while its request for MIN is open. It keeps the level before.

@@ -24,7 +24,7 @@ pub record Laws : Type 0 where
   -- tenths to milliseconds and back lose nothing, whichever way is rounded
   pub up-returns : (t : Tenths) → t .0 ≤ 65535 → tenthsUp (tenthsToMillis t) ≡ t
   pub down-returns : (t : Tenths) → t .0 ≤ 65535 → tenthsDown (tenthsToMillis t) ≡ t
-  -- a span added to a reading has passed at the sum, which lies at or after the reading
+  -- a span added to a reading has passed at the sum, where 64 bits hold it; it lies at or after the reading
   pub later-elapsed : (at span : Micros) → at .0 + span .0 ≤ 18446744073709551615 → elapsed at (later at span) ≡ span
   pub later-is-later : (at span : Micros) → at .0 ≤ 18446744073709551615 → at .0 ≤ later at span .0
   -- 12 exactly if the product is above 65,535; else the quotient q, rounded down: divisor·q ≤ T·factor < divisor·(q + 1)

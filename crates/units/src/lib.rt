@@ -45,7 +45,7 @@ impl Tenths {
     }
 
     // Times a factor and over a divisor, rounded down, if 16 bits hold the product: the source's checked
-    // multiplication and its division. Over 0 it gives 0.
+    // multiplication and its division. Over 0 a product that fits gives 0.
     pub fn mul_div_floor(self, factor: u8, divisor: u8) -> Scaled
         ensures { λ r. ⌜ r ≡ scaledFloor self factor divisor ⌝ }
     {

@@ -17,28 +17,28 @@ loop-holds : tie.Need-loop-holds Inv-loop μ-loop
 loop-holds c = (omega arith, omega arith)
 
 -- src/states.rt:80:56
-add-record-event : tie.Need-add-record-event Inv-loop μ-loop
-add-record-event c = search needs
+add-record-answer : tie.Need-add-record-answer Inv-loop μ-loop
+add-record-answer c = search needs
 
 -- src/states.rt:80:42
-sub-record-event : tie.Need-sub-record-event Inv-loop μ-loop
-sub-record-event c = search needs
+sub-record-answer : tie.Need-sub-record-answer Inv-loop μ-loop
+sub-record-answer c = search needs
 
 -- src/states.rt:80:42
-part-record-event-start : tie.Need-part-record-event-start Inv-loop μ-loop
-part-record-event-start c = search needs
+part-record-answer-start : tie.Need-part-record-answer-start Inv-loop μ-loop
+part-record-answer-start c = search needs
 
 -- src/states.rt:80:42
-part-record-event-end : tie.Need-part-record-event-end Inv-loop μ-loop
-part-record-event-end c = search needs
+part-record-answer-end : tie.Need-part-record-answer-end Inv-loop μ-loop
+part-record-answer-end c = search needs
 
 -- src/states.rt:80:13
-record-event-requires : tie.Need-record-event-requires Inv-loop μ-loop
-record-event-requires c κs = search needs
+record-answer-requires : tie.Need-record-answer-requires Inv-loop μ-loop
+record-answer-requires c κs = search needs
 
 -- src/states.rt:81:9
-print-effect-requires : tie.Need-print-effect-requires Inv-loop μ-loop
-print-effect-requires c κs = search needs
+print-answer-requires : tie.Need-print-answer-requires Inv-loop μ-loop
+print-answer-requires c κs = search needs
 
 -- src/states.rt:83:9
 add-from : tie.Need-add-from Inv-loop μ-loop
@@ -71,12 +71,12 @@ print-events-spec =
     Inv-loop
     μ-loop
     loop-holds
-    add-record-event
-    sub-record-event
-    part-record-event-start
-    part-record-event-end
-    record-event-requires
-    print-effect-requires
+    add-record-answer
+    sub-record-answer
+    part-record-answer-start
+    part-record-answer-end
+    record-answer-requires
+    print-answer-requires
     add-from
     add-index
     sub-left
