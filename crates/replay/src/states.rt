@@ -1,5 +1,6 @@
-// The sheet of a play with the whole state after each line (oracle/README.md, "A port"). Its lines are made from the answers of
-// `event`, as a caller of it gets them: the actions in their array. The sheet itself is written from their places.
+// The sheet of a play with the whole state after each line (oracle/README.md, "A port"). Its lines are made from the answers of the
+// handler's methods, as a caller of them gets them: the actions in their array. The sheet itself is written from their places.
+use handler::LevelControlHandler;
 use level_control::answer::Answer;
 use level_control::answer::Effect;
 use level_control::state::LevelControlState;
@@ -13,6 +14,9 @@ use sheet::play::length_ok;
 use text::front;
 use transitions::events::Action;
 use transitions::events::ActionKind;
+use transitions::events::Event;
+use transitions::events::EventKind;
+use transitions::events::SceneRequest;
 use transitions::types::Level;
 use transitions::types::Rate;
 use transitions::types::Time;
@@ -116,9 +120,51 @@ fn print_answer(index: u64, answer: Answer) {
     print_state(state);
 }
 
+// The level stands among pairs that do not decide: of another attribute, without a value, and behind the first.
+fn recalled(handler: LevelControlHandler, event: Event, scene: SceneRequest) -> Answer {
+    let level = scene.level;
+    match level {
+        Level::Known(value) => {
+            let ids = [8u32, 0, 0, 0];
+            let values = [1u16, 256, value as u16, 7];
+            handler.apply(event.at, event.on_off, &ids, &values, scene.transition_time)
+        }
+        Level::Missing => {
+            let ids = [8u32, 0];
+            let values = [1u16, 256];
+            handler.apply(event.at, event.on_off, &ids, &values, scene.transition_time)
+        }
+    }
+}
+
+fn handled(handler: LevelControlHandler, event: Event) -> Answer {
+    let at = event.at;
+    let on_off = event.on_off;
+    let kind = event.kind;
+    match kind {
+        EventKind::StartUp => handler.startup(at, on_off),
+        EventKind::MoveToLevel(request) => handler.move_to_level(at, on_off, request),
+        EventKind::Move(request) => handler.move_command(at, on_off, request),
+        EventKind::Step(request) => handler.step(at, on_off, request),
+        EventKind::Stop(request) => handler.stop(at, on_off, request),
+        EventKind::Answer(answer) => handler.answer(at, on_off, answer),
+        EventKind::Wake => handler.wake(at, on_off),
+        EventKind::OnOffChanged(on) => handler.handle_on_off_state_change(at, on_off, on),
+        EventKind::Scene(scene) => recalled(handler, event, scene),
+        EventKind::DeviceUpdate(level) => handler.update(at, on_off, level),
+        EventKind::DeviceStop => handler.device_stop(at, on_off),
+        EventKind::SetOnLevel(level) => handler.set_on_level(at, on_off, level),
+        EventKind::SetDefaultMoveRate(rate) => handler.set_default_move_rate(at, on_off, rate),
+        EventKind::SetStartUpCurrentLevel(level) => {
+            handler.set_start_up_current_level(at, on_off, level)
+        }
+        EventKind::FactoryReset => handler.factory_reset(at, on_off),
+    }
+}
+
 fn record_answer(state: LevelControlState, bytes: &[u8]) -> Answer {
     match read_event(bytes) {
-        EventRead::Event(event) => state.event(event),
+        EventRead::Event(event) => handled(LevelControlHandler { state: state }, event),
         EventRead::RecordWrong => Answer::of(Effect::refused(state, 1)),
     }
 }
