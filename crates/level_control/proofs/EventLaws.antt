@@ -2,13 +2,13 @@
 use Prim.Native.Nat.{ℕ, _+_}
 use mathlib.Core.Bool.{Bool, true, false, cond, true≢false}
 use mathlib.Core.Path.{_≡_, refl, sym, ap, _∙_}
-use mathlib.Core.List.{List, []}
+use mathlib.Core.List.{List, [], _∷_}
 use native.Mathlib.Omega.{arith}
 use borrow.Author.Tests.{eqb-true, eqb-false, eq-eqb, ne-eqb}
 use lib.Dec.{eqb}
 use Rattle.units.specs.declared.Micros.{Micros}
-use Rattle.transitions.specs.Causes.{eventTests, firstCause}
-use Rattle.transitions.specs.Events.{turnOf}
+use Rattle.transitions.specs.Causes.{eventTests, firstCause, noCommandTests, noTurnTests}
+use Rattle.transitions.specs.Events.{event, turnOf}
 use Rattle.transitions.specs.Fade.{waitOrAsk}
 use Rattle.transitions.specs.Tasks.{beginFade, fadeLast, fadeNext, levelToRestore, nextMove, atLimit}
 use Rattle.transitions.specs.Types.{levelOr}
@@ -23,6 +23,10 @@ use Rattle.transitions.specs.declared.events.DeviceAnswer.the-variants as devic
 use Rattle.transitions.specs.declared.events.Event.{Event}
 use Rattle.transitions.specs.declared.events.EventKind.{EventKind}
 use Rattle.transitions.specs.declared.events.EventKind.the-variants as kind
+use Rattle.transitions.specs.declared.events.Turn.the-variants as turn
+use Rattle.transitions.proofs.events.EventKind.{the-type}
+use denote.Enum.Declared.{tagOf}
+use types.Run.{OneOf, miss}
 use Rattle.transitions.specs.declared.events.StepRequest.{StepRequest}
 use Rattle.transitions.specs.declared.fade.Next.{Next}
 use Rattle.transitions.specs.declared.fade.Next.the-variants.{Wait, Ask}
@@ -228,6 +232,9 @@ pub event-runs : (s : LevelControlState) (e : Event) → numberOf s e ≡ 0 → 
 unfolding eventOf
 event-runs s e h q = simp (eq-eqb (numberOf s e) 0 h, q)
 
+pub refused-by : (s : LevelControlState) (e : Event) {n : ℕ} → n ≡ numberOf s e → (n ≡ 0 → ⊥) → refused s n ≡ eventOf s e
+refused-by s e q h = ap (refused s) q ∙ sym (event-refused s e (λ z. h (q ∙ z)))
+
 -- the number of the outcome is that of the first cause
 pub event-number : (s : LevelControlState) (e : Event) → eventOf s e .number ≡ numberOf s e
 event-number s e = go (eqb (numberOf s e) 0) refl (stoppedIn s e) refl
@@ -261,6 +268,80 @@ unfolding firstCause
 turn-passes t c h =
     let w = passes (t .«time_refused») (t .«answer_open») (t .«no_answer_open») (t .«wake_refused») (t .«start_up_late») _ h in
     record { in-time = w .0; not-open = w .1; opened = w .2; due = w .3; first = w .4 }
+
+-- the causes of an event's turn come before those of its values
+
+first-by : (a b c d f : Bool) (x : ℕ) → (_≡_ {A = ℕ} (cond a 5 (cond b 6 (cond c 7 (cond d 8 (cond f 9 0))))) 0 → ⊥)
+    → _≡_ {A = ℕ} (cond a 5 (cond b 6 (cond c 7 (cond d 8 (cond f 9 0))))) (cond a 5 (cond b 6 (cond c 7 (cond d 8 (cond f 9 x)))))
+first-by true b c d f x h = refl
+first-by false true c d f x h = refl
+first-by false false true d f x h = refl
+first-by false false false true f x h = refl
+first-by false false false false true x h = refl
+first-by false false false false false x h = absurd (h refl)
+
+pub turn-first : (t : TurnTests) (c : CommandTests) → (firstCause (eventTests t noCommandTests) ≡ 0 → ⊥)
+    → firstCause (eventTests t noCommandTests) ≡ firstCause (eventTests t c)
+unfolding firstCause
+turn-first t c h = first-by (t .«time_refused») (t .«answer_open») (t .«no_answer_open») (t .«wake_refused») (t .«start_up_late») _ h
+
+pub values-next : (t : TurnTests) (c : CommandTests) → firstCause (eventTests t noCommandTests) ≡ 0
+    → firstCause (eventTests noTurnTests c) ≡ firstCause (eventTests t c)
+unfolding firstCause
+values-next t c h =
+    let w = turn-passes t noCommandTests h in
+    rw (w .in-time, w .not-open, w .opened, w .due, w .first)
+
+-- the kinds that are none of the three with a turn of their own, by their numbers
+abbrev others : List ℕ
+others = 1 ∷ 2 ∷ 3 ∷ 4 ∷ 7 ∷ 8 ∷ 9 ∷ 10 ∷ 11 ∷ 12 ∷ 13 ∷ 14 ∷ []
+
+pub other-turn : (k : EventKind) → OneOf others (tagOf the-type k) → turnOf k ≡ turn.Other
+other-turn kind.StartUp h = absurd (miss others 0 tt h)
+other-turn (kind.MoveToLevel r) h = refl
+other-turn (kind.Move r) h = refl
+other-turn (kind.Step r) h = refl
+other-turn (kind.Stop r) h = refl
+other-turn (kind.Answer a) h = absurd (miss others 5 tt h)
+other-turn kind.Wake h = absurd (miss others 6 tt h)
+other-turn (kind.OnOffChanged value) h = refl
+other-turn (kind.Scene r) h = refl
+other-turn (kind.DeviceUpdate level) h = refl
+other-turn kind.DeviceStop h = refl
+other-turn (kind.SetOnLevel level) h = refl
+other-turn (kind.SetDefaultMoveRate rate) h = refl
+other-turn (kind.SetStartUpCurrentLevel level) h = refl
+other-turn kind.FactoryReset h = refl
+
+-- what refuses such an event: its turn, else its values
+
+abbrev TurnNumber : LevelControlState → Event → ℕ
+TurnNumber s e = firstCause (eventTests (turnTests s (e .at) turn.Other) noCommandTests)
+
+whole-number : (s : LevelControlState) (e : Event) → turnOf (e .kind) ≡ turn.Other
+    → firstCause (eventTests (turnTests s (e .at) turn.Other) (commandTestsOf s (e .«on_off») (e .kind))) ≡ numberOf s e
+unfolding numberOf
+whole-number s e o = rw (o)
+
+pub turn-number : (s : LevelControlState) (e : Event) {n : ℕ} → turnOf (e .kind) ≡ turn.Other → n ≡ TurnNumber s e → (n ≡ 0 → ⊥) → n ≡ numberOf s e
+turn-number s e o q h = q ∙ turn-first _ _ (λ z. h (q ∙ z)) ∙ whole-number s e o
+
+pub value-number : (s : LevelControlState) (e : Event) (early n : ℕ) → turnOf (e .kind) ≡ turn.Other → early ≡ TurnNumber s e → early ≡ 0
+    → n ≡ firstCause (eventTests noTurnTests (commandTestsOf s (e .«on_off») (e .kind))) → n ≡ numberOf s e
+value-number s e early n o q z v = v ∙ values-next _ _ (sym q ∙ z) ∙ whole-number s e o
+
+-- an event with its kind named
+
+pub same-event : (s : LevelControlState) (e : Event) {k : EventKind} → e .kind ≡ k → eventOf s (event (e .at) (e .«on_off») k) ≡ eventOf s e
+same-event s e h = ap (λ (k : EventKind). eventOf s (event (e .at) (e .«on_off») k)) (sym h)
+
+-- start-up does not look at the on/off value
+either-start-up : (s : LevelControlState) (e : Event) → eventOf s (event (e .at) false kind.StartUp) ≡ eventOf s (event (e .at) (e .«on_off») kind.StartUp)
+unfolding eventOf numberOf commandTestsOf run
+either-start-up s e = refl
+
+pub same-start-up : (s : LevelControlState) (e : Event) → e .kind ≡ kind.StartUp → eventOf s (event (e .at) false kind.StartUp) ≡ eventOf s e
+same-start-up s e h = either-start-up s e ∙ same-event s e h
 
 -- and where no options stop it, none of the tests of its values
 pub record CommandPasses (c : CommandTests) : Type 0 where

@@ -20,6 +20,7 @@ pub struct Answer {
 }
 
 // The actions by their places. An array would have to be copied with the state at every step on the way.
+// The fields stand in the order that runs fastest, not by meaning (docs/DECISIONS.md).
 pub struct Effect {
     pub actions: Actions,
     pub number: u8,

@@ -4,15 +4,22 @@ use crate::answer::Answer;
 use crate::answer::Effect;
 use crate::state::LevelControlState;
 use transitions::action_list::Last;
+use transitions::causes::CommandTests;
 use transitions::causes::Tests;
+use transitions::causes::TurnTests;
 use transitions::causes::first_cause;
 use transitions::events::DeviceAnswer;
 use transitions::events::Event;
 use transitions::events::EventKind;
+use transitions::events::Turn;
 use transitions::tasks::Phase;
 use transitions::tasks::Task;
 use units::Micros;
 ghost use mathlib.Core.Path.{_≡_};
+ghost use mathlib.Core.Bool.{false};
+ghost use Rattle.transitions.specs.Events.{event, turnOf};
+ghost use Rattle.transitions.specs.declared.events.EventKind.the-variants as kind;
+ghost use Rattle.transitions.specs.declared.events.Turn.the-variants as turn;
 ghost use Rattle.level_control.specs.Answer.{outcomeOf, packed};
 ghost use Rattle.level_control.specs.Events.{answered, eventOf, run, woken};
 
@@ -60,18 +67,16 @@ impl LevelControlState {
         }
     }
 
-    // What an event does once no cause refuses it and no options stop it.
-    pub fn run(self, kind: EventKind, at: Micros, on_off: bool) -> Effect
+    // What one of the other twelve does once no cause refuses it and no options stop it.
+    fn run(self, kind: EventKind, at: Micros, on_off: bool) -> Effect
+        requires { ⌜ turnOf kind ≡ turn.Other ⌝ }
         ensures { λ r. ⌜ outcomeOf r ≡ run self kind at «on_off» ⌝ }
     {
         match kind {
-            EventKind::StartUp => self.started_up(),
             EventKind::MoveToLevel(request) => self.moved_to_level(request, at, on_off),
             EventKind::Move(request) => self.begin_move(request, at, on_off),
             EventKind::Step(request) => self.stepped(request, at, on_off),
             EventKind::Stop(_) => self.stopped(),
-            EventKind::Answer(answer) => self.answered(answer, at, on_off),
-            EventKind::Wake => self.woken(at, on_off),
             EventKind::OnOffChanged(on) => self.switched(on, at, on_off),
             EventKind::Scene(request) => self.recalled(request, at, on_off),
             EventKind::DeviceUpdate(level) => self.updated(level, at),
@@ -80,18 +85,62 @@ impl LevelControlState {
             EventKind::SetDefaultMoveRate(rate) => self.with_default_move_rate(rate),
             EventKind::SetStartUpCurrentLevel(level) => self.with_start_up(level),
             EventKind::FactoryReset => self.reset_all(),
+            // These have a turn of their own, and never come here.
+            EventKind::StartUp => self.doing(Last::Nothing),
+            EventKind::Answer(_) => self.doing(Last::Nothing),
+            EventKind::Wake => self.doing(Last::Nothing),
         }
     }
 
-    // One event of any kind: refused with the first cause, or accepted and stopped by the options, or accepted and run.
-    pub fn effect(self, event: Event) -> Effect
+    // Start-up, answers and wakes: each has its own turn, and no tests of its values.
+
+    fn start_up_event(self, at: Micros) -> Effect
+        ensures { λ r. ⌜ outcomeOf r ≡ eventOf self (event at false kind.StartUp) ⌝ }
+    {
+        let turn = self.turn_tests(at, Turn::StartUp);
+        let number = first_cause(Tests::of_event(turn, CommandTests::none()));
+        if number != 0 {
+            return Effect::refused(self, number);
+        }
+        self.accept(at).started_up()
+    }
+
+    fn answer_event(self, answer: DeviceAnswer, at: Micros, on_off: bool) -> Effect
+        ensures { λ r. ⌜ outcomeOf r ≡ eventOf self (event at «on_off» (kind.Answer answer)) ⌝ }
+    {
+        let turn = self.turn_tests(at, Turn::Answer);
+        let number = first_cause(Tests::of_event(turn, CommandTests::none()));
+        if number != 0 {
+            return Effect::refused(self, number);
+        }
+        self.accept(at).answered(answer, at, on_off)
+    }
+
+    fn wake_event(self, at: Micros, on_off: bool) -> Effect
+        ensures { λ r. ⌜ outcomeOf r ≡ eventOf self (event at «on_off» kind.Wake) ⌝ }
+    {
+        let turn = self.turn_tests(at, Turn::Wake);
+        let number = first_cause(Tests::of_event(turn, CommandTests::none()));
+        if number != 0 {
+            return Effect::refused(self, number);
+        }
+        self.accept(at).woken(at, on_off)
+    }
+
+    // The other twelve share a turn. Its causes, 5 and 6, come before those of an event's values.
+    fn other_event(self, event: Event) -> Effect
+        requires { ⌜ turnOf (event .kind) ≡ turn.Other ⌝ }
         ensures { λ r. ⌜ outcomeOf r ≡ eventOf self event ⌝ }
     {
         let at = event.at;
         let kind = event.kind;
-        let turn = self.turn_tests(at, kind.turn());
+        let turn = self.turn_tests(at, Turn::Other);
+        let early = first_cause(Tests::of_event(turn, CommandTests::none()));
+        if early != 0 {
+            return Effect::refused(self, early);
+        }
         let command = self.command_tests(event.on_off, kind);
-        let number = first_cause(Tests::of_event(turn, command));
+        let number = first_cause(Tests::of_event(TurnTests::none(), command));
         if number != 0 {
             return Effect::refused(self, number);
         }
@@ -100,6 +149,21 @@ impl LevelControlState {
             return state.doing(Last::Nothing);
         }
         state.run(kind, at, event.on_off)
+    }
+
+    // One event of any kind: refused with the first cause, or accepted and stopped by the options, or accepted and run.
+    pub fn effect(self, event: Event) -> Effect
+        ensures { λ r. ⌜ outcomeOf r ≡ eventOf self event ⌝ }
+    {
+        let at = event.at;
+        let on_off = event.on_off;
+        let kind = event.kind;
+        match kind {
+            EventKind::StartUp => self.start_up_event(at),
+            EventKind::Answer(answer) => self.answer_event(answer, at, on_off),
+            EventKind::Wake => self.wake_event(at, on_off),
+            _ => self.other_event(event),
+        }
     }
 
     // The same, its actions in an array.

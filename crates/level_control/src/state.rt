@@ -9,6 +9,7 @@ use units::Tenths;
 ghost use mathlib.Core.Path.{_≡_};
 ghost use Rattle.level_control.specs.State.{accept, newState, putBack, withAttributes, withLevel, withPreviousLevel, withTask};
 
+// The fields stand in the order that runs fastest, not by meaning (docs/DECISIONS.md).
 pub struct LevelControlState {
     pub settings: Settings,
     pub attributes: Attributes,

@@ -50,8 +50,8 @@ lamp min max coupled level onLevel common = record {
 }
 
 -- the same lamp with a start-up level and an off time
-abbrev pub set : Settings → Level → Time → Settings
-set s startUp offTime = record {
+abbrev pub configured : Settings → Level → Time → Settings
+configured s startUp offTime = record {
   «min_level» = s .«min_level»;
   «max_level» = s .«max_level»;
   coupled = s .coupled;
@@ -131,7 +131,7 @@ pub record Parts : Type 0 where
   pub off-from-missing : eventOf (newState (lamp 1 254 false Missing Missing 0)) (at 0 (kind.OnOffChanged false)) .actions ≡ action E 11 ∷ []
   -- The off time is that from the maximum level to the minimum level; the machine takes it for the whole way, here of 9 of 253 levels in 11 tenths,
   -- of which 10 are shown after the first answer.
-  pub off-time : (remainingAfter (newState (set (lamp 1 254 true (Known 10) Missing 1) Missing (time.Known (tenths 11))))
+  pub off-time : (remainingAfter (newState (configured (lamp 1 254 true (Known 10) Missing 1) Missing (time.Known (tenths 11))))
       (event (micros 0) true (kind.OnOffChanged false) ∷ event (micros 0) true (answers 9) ∷ []) ≡ 10)
       × (partOfTime 1 254 9 11 ≡ 0)
   -- A step whose time has too large a product is refused; the document reduces the time.
@@ -147,7 +147,7 @@ pub record Parts : Type 0 where
       × (afterOn (Known 255) (Known 15) 10 20 time.Missing 0 ≡ Goes 10 20 0)
   -- At start-up a stored level outside MIN..MAX is asked for as it is, and a start-up level outside it is brought within.
   pub start-up-outside : (eventOf (newState (lamp 10 20 false (Known 255) Missing 0)) (at 0 kind.StartUp) .actions ≡ action D 255 ∷ [])
-      × (eventOf (newState (set (lamp 50 90 false (Known 60) Missing 0) (Known 254) time.Missing)) (at 0 kind.StartUp) .actions ≡ action D 90 ∷ [])
+      × (eventOf (newState (configured (lamp 50 90 false (Known 60) Missing 0) (Known 254) time.Missing)) (at 0 kind.StartUp) .actions ≡ action D 90 ∷ [])
   -- A start-up level of 0 stands for the minimum, and may be set [source]; the machine refuses to set it, as any level outside MIN..MAX.
   pub set-start-up-0 : (eventOf lamp10 (at 0 (kind.SetStartUpCurrentLevel (Known 0))) .number ≡ 13) × (startUp (Known 0) 1 (Known 10) ≡ Known 1)
   -- Of setting a default rate of 0 the document is not explicit [source]; the machine refuses it.

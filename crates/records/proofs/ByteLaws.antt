@@ -1,14 +1,14 @@
 -- Laws of the bytes' definitions, by which the code reads them. Assumes nothing.
-use Prim.Native.Nat.{ℕ, zero, suc, _+_, _*_, _^_, _<_, _≤_}
-use mathlib.Core.Path.{_≡_, refl, sym}
-use mathlib.Core.Bool.{true, false}
-use mathlib.Core.List.{List}
+use Prim.Native.Nat.{ℕ, zero, suc, _+_, _*_, _^_, _≤_}
+use mathlib.Core.Path.{_≡_, refl, sym, _∙_}
+use mathlib.Core.Bool.{Bool, true, false}
+use mathlib.Core.List.{List, [], _∷_}
 use native.Mathlib.Nat.{zero-add, add-zero, suc-add, pow-succ', mul-assoc}
 use native.Mathlib.Numerals.{add-one}
 use native.Mathlib.Omega.{arith}
-use borrow.Author.Tests.{eq-eqb, ne-eqb}
+use borrow.Author.Tests.{eq-eqb, ne-eqb, eqb-true, eqb-false}
+use lib.Dec.{eqb}
 use lib.ListN.{length, getD, drop, drop-of-length-le, List·getD-eq-default}
-use lib.Seq.{drop-cons}
 use Rattle.records.specs.Bytes.{byteAt, lowFirst, allZero}
 
 -- past the end every number is 0
@@ -29,14 +29,35 @@ halves (suc n) m s at =
 pub joined : (n : ℕ) (s : List ℕ) (at : ℕ) {low high : ℕ} → low ≡ lowFirst n s at → high ≡ lowFirst n s (at + n) → low + 256 ^ n * high ≡ lowFirst (n + n) s at
 joined n s at l h = rw (l, h) (sym (halves n n s at))
 
--- what is left of the bytes gives the answer of the whole, while they are 0
-pub zeros-step : (s : List ℕ) (i : ℕ) → i < length s → getD s i 0 ≡ 0 → allZero (drop (i + 1) s) ≡ allZero (drop i s)
+-- while the bytes are 0, what is left of them gives the answer of the whole
+zeros-byte : (s : List ℕ) (i : ℕ) → byteAt s i ≡ 0 → allZero (drop (suc i) s) ≡ allZero (drop i s)
 unfolding allZero
-zeros-step s i h e = rw (drop-cons s i 0 h, add-one, eq-eqb (getD s i 0) 0 e)
+zeros-byte [] zero e = refl
+zeros-byte [] (suc i) e = refl
+zeros-byte (b ∷ s) zero e = rw (eq-eqb b 0 e)
+zeros-byte (b ∷ s) (suc i) e = zeros-byte s i e
 
-pub zeros-stop : (s : List ℕ) (i : ℕ) → i < length s → (getD s i 0 ≡ 0 → ⊥) → allZero (drop i s) ≡ false
+other-byte : (s : List ℕ) (i : ℕ) → (byteAt s i ≡ 0 → ⊥) → allZero (drop i s) ≡ false
 unfolding allZero
-zeros-stop s i h e = rw (drop-cons s i 0 h, ne-eqb (getD s i 0) 0 e)
+other-byte [] zero e = absurd (e refl)
+other-byte [] (suc i) e = absurd (e refl)
+other-byte (b ∷ s) zero e = rw (ne-eqb b 0 e)
+other-byte (b ∷ s) (suc i) e = other-byte s i e
+
+-- so a number of several bytes tells of them all
+pub zeros-step : (n : ℕ) (s : List ℕ) (i : ℕ) → lowFirst n s i ≡ 0 → allZero (drop (i + n) s) ≡ allZero (drop i s)
+zeros-step zero s i e = rw (add-zero)
+zeros-step (suc n) s i e =
+    let rest : i + suc n ≡ i + 1 + n = omega arith in
+    rw (rest) (zeros-step n s (i + 1) (omega (arith, e)) ∙ rw (add-one) (zeros-byte s i (omega (arith, e))))
+
+pub zeros-stop : (n : ℕ) (s : List ℕ) (i : ℕ) → (lowFirst n s i ≡ 0 → ⊥) → allZero (drop i s) ≡ false
+zeros-stop zero s i e = absurd (e refl)
+zeros-stop (suc n) s i e = by (eqb (byteAt s i) 0) refl (λ none. zeros-stop n s (i + 1) (λ z. e (omega (arith, none, z))))
+  where
+    by : (b : Bool) → eqb (byteAt s i) 0 ≡ b → (byteAt s i ≡ 0 → allZero (drop (i + 1) s) ≡ false) → allZero (drop i s) ≡ false
+    by true h more = sym (zeros-byte s i (eqb-true _ _ h)) ∙ rw (← add-one) (more (eqb-true _ _ h))
+    by false h more = other-byte s i (eqb-false _ _ h)
 
 pub zeros-end : (s : List ℕ) (i : ℕ) → length s ≤ i → allZero (drop i s) ≡ true
 unfolding allZero

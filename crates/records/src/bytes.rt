@@ -58,16 +58,19 @@ pub fn is_set(bytes: &[u8], at: usize) -> bool
     byte(bytes, at) == 1
 }
 
-// Unnamed bytes are 0.
+// Unnamed bytes are 0. They are read eight at a time, and past the end as 0.
 pub fn zeros_from(bytes: &[u8], from: usize) -> bool
     ensures { λ r. ⌜ r ≡ zerosFrom (now (bytes .entry)) from ⌝ }
 {
     let mut i = from;
     while i < bytes.len() {
-        if bytes[i] != 0 {
+        if u64_at(bytes, i) != 0 {
             return false;
         }
-        i += 1;
+        if bytes.len() - i <= 8 {
+            return true;
+        }
+        i += 8;
     }
     true
 }

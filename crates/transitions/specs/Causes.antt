@@ -61,3 +61,6 @@ commandTests invalid stopped state product outside rate = record {
 
 abbrev pub noCommandTests : CommandTests
 noCommandTests = commandTests false false false false false false
+
+abbrev pub noTurnTests : TurnTests
+noTurnTests = record { «time_refused» = false; «answer_open» = false; «no_answer_open» = false; «wake_refused» = false; «start_up_late» = false }

@@ -1,7 +1,7 @@
 // "Causes and numbers": which cause of the table comes first, given what each test says.
 // Derived from level_control.rs of project-chip/rs-matter 43f61585a4 (see NOTICE), and changed.
 ghost use mathlib.Core.Path.{_≡_};
-ghost use Rattle.transitions.specs.Causes.{eventTests, firstCause, noCommandTests};
+ghost use Rattle.transitions.specs.Causes.{eventTests, firstCause, noCommandTests, noTurnTests};
 
 // What the tests of a call say: of its settings, of a record, of the output.
 pub struct CallTests {
@@ -116,6 +116,21 @@ impl Tests {
             call: call,
             turn: turn,
             command: command,
+        }
+    }
+}
+
+impl TurnTests {
+    // Of an event whose turn has come.
+    pub fn none() -> TurnTests
+        ensures { λ r. ⌜ r ≡ noTurnTests ⌝ }
+    {
+        TurnTests {
+            time_refused: false,
+            answer_open: false,
+            no_answer_open: false,
+            wake_refused: false,
+            start_up_late: false,
         }
     }
 }

@@ -7,8 +7,6 @@ use crate::types::Rate;
 use crate::types::Time;
 use units::Micros;
 use units::Millis;
-ghost use mathlib.Core.Path.{_≡_};
-ghost use Rattle.transitions.specs.Events.{turnOf};
 
 pub struct MoveToLevelRequest {
     pub with_on_off: bool,
@@ -105,28 +103,4 @@ pub enum ActionKind {
 pub struct Action {
     pub kind: ActionKind,
     pub value: u64,
-}
-
-impl EventKind {
-    pub fn turn(self) -> Turn
-        ensures { λ r. ⌜ r ≡ turnOf self ⌝ }
-    {
-        match self {
-            EventKind::StartUp => Turn::StartUp,
-            EventKind::MoveToLevel(_) => Turn::Other,
-            EventKind::Move(_) => Turn::Other,
-            EventKind::Step(_) => Turn::Other,
-            EventKind::Stop(_) => Turn::Other,
-            EventKind::Answer(_) => Turn::Answer,
-            EventKind::Wake => Turn::Wake,
-            EventKind::OnOffChanged(_) => Turn::Other,
-            EventKind::Scene(_) => Turn::Other,
-            EventKind::DeviceUpdate(_) => Turn::Other,
-            EventKind::DeviceStop => Turn::Other,
-            EventKind::SetOnLevel(_) => Turn::Other,
-            EventKind::SetDefaultMoveRate(_) => Turn::Other,
-            EventKind::SetStartUpCurrentLevel(_) => Turn::Other,
-            EventKind::FactoryReset => Turn::Other,
-        }
-    }
 }

@@ -1,4 +1,5 @@
 // What is configured, and the attributes that events can set.
+// The fields stand in the order that runs fastest, not by meaning (docs/DECISIONS.md).
 // Derived from level_control.rs of project-chip/rs-matter 43f61585a4 (see NOTICE), and changed.
 use crate::types::Level;
 use crate::types::OptionsBitmap;

@@ -1,4 +1,5 @@
 // "How events run": what a running task keeps, and how it begins and goes on (the source's Task, its timers and its loops).
+// The fields stand in the order that runs fastest, not by meaning (docs/DECISIONS.md).
 // Derived from level_control.rs of project-chip/rs-matter 43f61585a4 (see NOTICE), and changed.
 use crate::fade::Next;
 use crate::fade::fade_period;

@@ -1,34 +1,35 @@
-use Rattle.level_control.specs.Events.{numberOf}
-use borrow.Author.Tests.{eq-eqb, ne-eqb}
-use Rattle.level_control.specs.Events.{eventOf}
+use mathlib.Core.Path.{_∙_}
+use Rattle.level_control.proofs.EventLaws.{other-turn, same-event, same-start-up}
 use Rattle.level_control.proofs.state.LevelControlState.effect.Statement.{statement}
 use Rattle.level_control.proofs.state.LevelControlState.effect.Tie as tie
 
 returns : tie.Need-returns
-unfolding eventOf numberOf
-returns c = simp (c .refused .ensures, simp (c .before .before .first-cause .ensures, c .before .before .before .of-event .ensures, c .before .before .before .before .command-tests .ensures, c .before .before .before .before .before .turn-tests .ensures, c .before .before .before .before .before .before .turn .ensures) at (ne-eqb _ _ (c .before .if1 .taken)), c .before .before .first-cause .ensures, c .before .before .before .of-event .ensures, c .before .before .before .before .command-tests .ensures, c .before .before .before .before .before .turn-tests .ensures, c .before .before .before .before .before .before .turn .ensures)
+returns c = let start = c .before .before .before .before in c .start-up-event .ensures ∙ same-start-up (start .args .self) (start .args .event) (c .before .enum-told .given .1)
 
 returns-2 : tie.Need-returns-2
-unfolding eventOf numberOf
-returns-2 c = simp (c .doing .ensures, simp (c .before .before .accept .ensures, c .before .before .before .before .first-cause .ensures, c .before .before .before .before .before .of-event .ensures, c .before .before .before .before .before .before .command-tests .ensures, c .before .before .before .before .before .before .before .turn-tests .ensures, c .before .before .before .before .before .before .before .before .turn .ensures) at (c .before .if2 .taken), c .before .before .accept .ensures, simp (c .before .before .before .before .first-cause .ensures, c .before .before .before .before .before .of-event .ensures, c .before .before .before .before .before .before .command-tests .ensures, c .before .before .before .before .before .before .before .turn-tests .ensures, c .before .before .before .before .before .before .before .before .turn .ensures) at (eq-eqb _ _ (c .before .before .before .if1 .left)), c .before .before .before .before .first-cause .ensures, c .before .before .before .before .before .of-event .ensures, c .before .before .before .before .before .before .command-tests .ensures, c .before .before .before .before .before .before .before .turn-tests .ensures, c .before .before .before .before .before .before .before .before .turn .ensures)
+returns-2 c = let start = c .before .before .before .before .before in c .answer-event .ensures ∙ same-event (start .args .self) (start .args .event) (c .before .before .kind .given .1)
 
 returns-3 : tie.Need-returns-3
-unfolding eventOf numberOf
-returns-3 c = simp (c .run .ensures, simp (c .before .before .accept .ensures, c .before .before .before .before .first-cause .ensures, c .before .before .before .before .before .of-event .ensures, c .before .before .before .before .before .before .command-tests .ensures, c .before .before .before .before .before .before .before .turn-tests .ensures, c .before .before .before .before .before .before .before .before .turn .ensures) at (c .before .if2 .left), c .before .before .accept .ensures, simp (c .before .before .before .before .first-cause .ensures, c .before .before .before .before .before .of-event .ensures, c .before .before .before .before .before .before .command-tests .ensures, c .before .before .before .before .before .before .before .turn-tests .ensures, c .before .before .before .before .before .before .before .before .turn .ensures) at (eq-eqb _ _ (c .before .before .before .if1 .left)), c .before .before .before .before .first-cause .ensures, c .before .before .before .before .before .of-event .ensures, c .before .before .before .before .before .before .command-tests .ensures, c .before .before .before .before .before .before .before .turn-tests .ensures, c .before .before .before .before .before .before .before .before .turn .ensures)
+returns-3 c = let start = c .before .before .before .before in c .wake-event .ensures ∙ same-event (start .args .self) (start .args .event) (c .before .enum-told2 .given .1)
+
+other-event-requires : tie.Need-other-event-requires
+other-event-requires c κs = other-turn (c .before .before .args .event .kind) (c .match .keys4)
+
+returns-4 : tie.Need-returns-4
+returns-4 c = c .other-event .ensures
 
 pub effect-spec : {M : Type 1} → statement M
 effect-spec =
     tie.close
     (tie.spec
+    (λ c. c .match .keys1)
     (λ c κs. tt)
+    (λ c. c .match .keys2)
     (λ c κs. tt)
+    (λ c. c .match .keys3)
     (λ c κs. tt)
-    (λ c κs. tt)
-    (λ c κs. tt)
-    (λ c κs. tt)
+    other-event-requires
     returns
-    (λ c κs. tt)
-    (λ c κs. tt)
     returns-2
-    (λ c κs. tt)
-    returns-3)
+    returns-3
+    returns-4)

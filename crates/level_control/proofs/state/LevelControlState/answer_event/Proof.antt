@@ -1,0 +1,40 @@
+use mathlib.Core.Path.{_≡_, refl, sym, _∙_}
+use Rattle.transitions.specs.Events.{event}
+use Rattle.transitions.specs.declared.events.EventKind.the-variants as kind
+use Rattle.level_control.specs.Causes.{commandTestsOf}
+use Rattle.level_control.specs.Events.{numberOf, run}
+use Rattle.level_control.proofs.EventLaws.{event-runs, refused-by}
+use Rattle.level_control.proofs.state.LevelControlState.answer_event.Statement.{statement}
+use Rattle.level_control.proofs.state.LevelControlState.answer_event.Tie as tie
+
+returns : tie.Need-returns
+unfolding numberOf commandTestsOf
+returns c =
+    let judged = c .before .before in
+    let start = judged .before .before .before .before in
+    let number : judged .first-cause .result ≡ numberOf (start .args .self) (event (start .args .at) (start .args .on-off) (kind.Answer (start .args .answer))) =
+    simp (judged .first-cause .ensures, judged .before .of-event .ensures, judged .before .before .none .ensures, judged .before .before .before .turn-tests .ensures) in
+    c .refused .ensures ∙ refused-by (start .args .self) (event (start .args .at) (start .args .on-off) (kind.Answer (start .args .answer))) number (c .before .if1 .taken)
+
+returns-2 : tie.Need-returns-2
+unfolding numberOf commandTestsOf run
+returns-2 c =
+    let judged = c .before .before .before in
+    let start = judged .before .before .before .before in
+    let number : judged .first-cause .result ≡ numberOf (start .args .self) (event (start .args .at) (start .args .on-off) (kind.Answer (start .args .answer))) =
+    simp (judged .first-cause .ensures, judged .before .of-event .ensures, judged .before .before .none .ensures, judged .before .before .before .turn-tests .ensures) in
+    simp (c .answered .ensures, c .before .accept .ensures, event-runs (start .args .self) (event (start .args .at) (start .args .on-off) (kind.Answer (start .args .answer))) (sym number ∙ c .before .before .if1 .left) refl)
+
+pub answer-event-spec : {M : Type 1} → statement M
+answer-event-spec =
+    tie.close
+    (tie.spec
+    (λ c κs. tt)
+    (λ c κs. tt)
+    (λ c κs. tt)
+    (λ c κs. tt)
+    (λ c κs. tt)
+    returns
+    (λ c κs. tt)
+    (λ c κs. tt)
+    returns-2)
