@@ -67,7 +67,7 @@ impl LevelControlState {
         }
     }
 
-    // What one of the other twelve does once no cause refuses it and no options stop it.
+    // What one of the twelve kinds without a turn of their own does, once no cause refuses it and no options stop it.
     fn run(self, kind: EventKind, at: Micros, on_off: bool) -> Effect
         requires { ⌜ turnOf kind ≡ turn.Other ⌝ }
         ensures { λ r. ⌜ outcomeOf r ≡ run self kind at «on_off» ⌝ }
@@ -127,7 +127,7 @@ impl LevelControlState {
         self.accept(at).woken(at, on_off)
     }
 
-    // The other twelve share a turn. Its causes, 5 and 6, come before those of an event's values.
+    // The twelve share a turn. Its causes, 5 and 6, come before those of an event's values.
     fn other_event(self, event: Event) -> Effect
         requires { ⌜ turnOf (event .kind) ≡ turn.Other ⌝ }
         ensures { λ r. ⌜ outcomeOf r ≡ eventOf self event ⌝ }
