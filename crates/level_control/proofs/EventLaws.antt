@@ -318,6 +318,9 @@ other-turn kind.FactoryReset h = refl
 abbrev TurnNumber : LevelControlState → Event → ℕ
 TurnNumber s e = firstCause (eventTests (turnTests s (e .at) turn.Other) noCommandTests)
 
+abbrev pub ValueNumber : LevelControlState → Event → ℕ
+ValueNumber s e = firstCause (eventTests noTurnTests (commandTestsOf s (e .«on_off») (e .kind)))
+
 whole-number : (s : LevelControlState) (e : Event) → turnOf (e .kind) ≡ turn.Other
     → firstCause (eventTests (turnTests s (e .at) turn.Other) (commandTestsOf s (e .«on_off») (e .kind))) ≡ numberOf s e
 unfolding numberOf
@@ -326,9 +329,9 @@ whole-number s e o = rw (o)
 pub turn-number : (s : LevelControlState) (e : Event) {n : ℕ} → turnOf (e .kind) ≡ turn.Other → n ≡ TurnNumber s e → (n ≡ 0 → ⊥) → n ≡ numberOf s e
 turn-number s e o q h = q ∙ turn-first _ _ (λ z. h (q ∙ z)) ∙ whole-number s e o
 
-pub value-number : (s : LevelControlState) (e : Event) (early n : ℕ) → turnOf (e .kind) ≡ turn.Other → early ≡ TurnNumber s e → early ≡ 0
-    → n ≡ firstCause (eventTests noTurnTests (commandTestsOf s (e .«on_off») (e .kind))) → n ≡ numberOf s e
-value-number s e early n o q z v = v ∙ values-next _ _ (sym q ∙ z) ∙ whole-number s e o
+pub value-number : (s : LevelControlState) (e : Event) {early n : ℕ} → turnOf (e .kind) ≡ turn.Other → early ≡ TurnNumber s e → early ≡ 0
+    → n ≡ ValueNumber s e → n ≡ numberOf s e
+value-number s e o q z v = v ∙ values-next _ _ (sym q ∙ z) ∙ whole-number s e o
 
 -- an event with its kind named
 

@@ -17,10 +17,12 @@ use transitions::tasks::Task;
 use units::Micros;
 ghost use mathlib.Core.Path.{_≡_};
 ghost use mathlib.Core.Bool.{false};
+ghost use Rattle.transitions.specs.Causes.{eventTests, firstCause, noCommandTests};
 ghost use Rattle.transitions.specs.Events.{event, turnOf};
 ghost use Rattle.transitions.specs.declared.events.EventKind.the-variants as kind;
 ghost use Rattle.transitions.specs.declared.events.Turn.the-variants as turn;
 ghost use Rattle.level_control.specs.Answer.{outcomeOf, packed};
+ghost use Rattle.level_control.specs.Causes.{turnTests};
 ghost use Rattle.level_control.specs.Events.{answered, eventOf, run, woken};
 
 impl LevelControlState {
@@ -92,13 +94,20 @@ impl LevelControlState {
         }
     }
 
+    // The first of the causes 5 to 9 that applies, or 0.
+    fn turn_number(self, at: Micros, turn: Turn) -> u8
+        ensures { λ r. ⌜ r ≡ firstCause (eventTests (turnTests self at turn) noCommandTests) ⌝ }
+    {
+        let tests = self.turn_tests(at, turn);
+        first_cause(Tests::of_event(tests, CommandTests::none()))
+    }
+
     // Start-up, answers and wakes: each has its own turn, and no tests of its values.
 
     fn start_up_event(self, at: Micros) -> Effect
         ensures { λ r. ⌜ outcomeOf r ≡ eventOf self (event at false kind.StartUp) ⌝ }
     {
-        let turn = self.turn_tests(at, Turn::StartUp);
-        let number = first_cause(Tests::of_event(turn, CommandTests::none()));
+        let number = self.turn_number(at, Turn::StartUp);
         if number != 0 {
             return Effect::refused(self, number);
         }
@@ -108,8 +117,7 @@ impl LevelControlState {
     fn answer_event(self, answer: DeviceAnswer, at: Micros, on_off: bool) -> Effect
         ensures { λ r. ⌜ outcomeOf r ≡ eventOf self (event at «on_off» (kind.Answer answer)) ⌝ }
     {
-        let turn = self.turn_tests(at, Turn::Answer);
-        let number = first_cause(Tests::of_event(turn, CommandTests::none()));
+        let number = self.turn_number(at, Turn::Answer);
         if number != 0 {
             return Effect::refused(self, number);
         }
@@ -119,8 +127,7 @@ impl LevelControlState {
     fn wake_event(self, at: Micros, on_off: bool) -> Effect
         ensures { λ r. ⌜ outcomeOf r ≡ eventOf self (event at «on_off» kind.Wake) ⌝ }
     {
-        let turn = self.turn_tests(at, Turn::Wake);
-        let number = first_cause(Tests::of_event(turn, CommandTests::none()));
+        let number = self.turn_number(at, Turn::Wake);
         if number != 0 {
             return Effect::refused(self, number);
         }
@@ -134,8 +141,7 @@ impl LevelControlState {
     {
         let at = event.at;
         let kind = event.kind;
-        let turn = self.turn_tests(at, Turn::Other);
-        let early = first_cause(Tests::of_event(turn, CommandTests::none()));
+        let early = self.turn_number(at, Turn::Other);
         if early != 0 {
             return Effect::refused(self, early);
         }

@@ -1,4 +1,4 @@
-use mathlib.Core.Path.{_≡_, refl, sym, _∙_}
+use mathlib.Core.Path.{refl, sym, _∙_}
 use Rattle.transitions.specs.Events.{event}
 use Rattle.transitions.specs.declared.events.EventKind.the-variants as kind
 use Rattle.level_control.specs.Causes.{commandTestsOf}
@@ -11,30 +11,16 @@ returns : tie.Need-returns
 unfolding numberOf commandTestsOf
 returns c =
     let judged = c .before .before in
-    let start = judged .before .before .before .before in
-    let number : judged .first-cause .result ≡ numberOf (start .args .self) (event (start .args .at) (start .args .on-off) kind.Wake) =
-    simp (judged .first-cause .ensures, judged .before .of-event .ensures, judged .before .before .none .ensures, judged .before .before .before .turn-tests .ensures) in
-    c .refused .ensures ∙ refused-by (start .args .self) (event (start .args .at) (start .args .on-off) kind.Wake) number (c .before .if1 .taken)
+    let start = judged .before in
+    c .refused .ensures ∙ refused-by (start .args .self) (event (start .args .at) (start .args .on-off) kind.Wake) (judged .turn-number .ensures) (c .before .if1 .taken)
 
 returns-2 : tie.Need-returns-2
 unfolding numberOf commandTestsOf run
 returns-2 c =
     let judged = c .before .before .before in
-    let start = judged .before .before .before .before in
-    let number : judged .first-cause .result ≡ numberOf (start .args .self) (event (start .args .at) (start .args .on-off) kind.Wake) =
-    simp (judged .first-cause .ensures, judged .before .of-event .ensures, judged .before .before .none .ensures, judged .before .before .before .turn-tests .ensures) in
-    simp (c .woken .ensures, c .before .accept .ensures, event-runs (start .args .self) (event (start .args .at) (start .args .on-off) kind.Wake) (sym number ∙ c .before .before .if1 .left) refl)
+    let start = judged .before in
+    let runs = event-runs (start .args .self) (event (start .args .at) (start .args .on-off) kind.Wake) (sym (judged .turn-number .ensures) ∙ c .before .before .if1 .left) refl in
+    simp (c .woken .ensures, c .before .accept .ensures, runs)
 
 pub wake-event-spec : {M : Type 1} → statement M
-wake-event-spec =
-    tie.close
-    (tie.spec
-    (λ c κs. tt)
-    (λ c κs. tt)
-    (λ c κs. tt)
-    (λ c κs. tt)
-    (λ c κs. tt)
-    returns
-    (λ c κs. tt)
-    (λ c κs. tt)
-    returns-2)
+wake-event-spec = tie.close (tie.spec (λ c κs. tt) (λ c κs. tt) returns (λ c κs. tt) (λ c κs. tt) returns-2)
