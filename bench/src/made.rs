@@ -146,7 +146,7 @@ fn refused() -> Vec<u8> {
     play.finished()
 }
 
-/// Something of every kind, coupled, with refusals between.
+/// Steps, stops, scenes, reactions, updates and a setter, coupled, with refusals between.
 fn mixed() -> Vec<u8> {
     let mut play = Play::new(COUPLED);
     let mut level = 3;

@@ -52,8 +52,21 @@ fn ours(play: &Play, out: &mut [u8]) {
 }
 
 /// With room for the text alone: it is measured first.
-fn ours_twice(play: &Play, out: &mut [u8]) {
+fn ours_exact(play: &Play, out: &mut [u8]) {
     black_box(call(OURS, play.records, &mut out[..play.text]));
+}
+
+fn plain_exact(play: &Play, out: &mut [u8]) {
+    black_box(call(PLAIN, play.records, &mut out[..play.text]));
+}
+
+/// With one byte less: it is refused.
+fn ours_refused(play: &Play, out: &mut [u8]) {
+    black_box(call(OURS, play.records, &mut out[..play.text - 1]));
+}
+
+fn plain_refused(play: &Play, out: &mut [u8]) {
+    black_box(call(PLAIN, play.records, &mut out[..play.text - 1]));
 }
 
 fn plain(play: &Play, out: &mut [u8]) {
@@ -111,7 +124,7 @@ fn run() {
     let mut out = vec![0; ROOM];
     compare(&all, &made, &mut out);
     growth(&made[0], &mut out);
-    two_passes(&all, &made, &mut out);
+    little_room(&all, &made, &mut out);
     let [our_stack, plain_stack] = stacks.map(|stack| stack.deepest());
     println!(
         "\nstack: ours {our_stack} bytes, (b) {plain_stack}: the deepest of all plays checked"
@@ -193,13 +206,31 @@ fn growth((name, play): &(&str, Play), out: &mut [u8]) {
     println!("ours: {slope:.1} ns for each event after the first");
 }
 
-fn two_passes(all: &[Play], made: &[(&str, Play)], out: &mut [u8]) {
-    println!("\nwith room for the text alone, so that it is measured first: ours, ns a line, and times one pass");
+/// Where the longest lines have no room, the text is measured first.
+fn little_room(all: &[Play], made: &[(&str, Play)], out: &mut [u8]) {
+    println!(
+        "\nwith little room, so that the text is measured first: ns a line of ours (times one pass) and of (b), and how many times as fast ours is"
+    );
+    println!(
+        "{:22} {:>33} {:>33}",
+        "", "room for the text alone", "one byte less: refused"
+    );
+    let sides: [Side; 5] = [ours, ours_exact, plain_exact, ours_refused, plain_refused];
     let mut row = |name: &str, plays: &[&Play]| {
-        let times = rounds(&[ours, ours_twice], plays, out);
-        let twice = median(times.iter().map(|round| round[1]));
-        let ratio = median(times.iter().map(|round| round[1] / round[0]));
-        println!("{name:22} {twice:8.1} {ratio:6.2}");
+        let times = rounds(&sides, plays, out);
+        let ns = |side: usize| median(times.iter().map(|round| round[side]));
+        let ratio = |a: usize, b: usize| median(times.iter().map(|round| round[a] / round[b]));
+        print!("{name:22}");
+        for (ours, plain) in [(1, 2), (3, 4)] {
+            print!(
+                " {:10.1} ({:4.2}) {:8.1} {:6.2}",
+                ns(ours),
+                ratio(ours, 0),
+                ns(plain),
+                ratio(plain, ours)
+            );
+        }
+        println!();
     };
     row("recorded", &all.iter().collect::<Vec<_>>());
     for (name, play) in made {

@@ -1,4 +1,4 @@
-// The source's handler: a state, and a method for each event under the source's name. Each gives the next state within its answer, and
+// The source's handler: a state, and a method for each event, under the source's name where it has one. Each gives the next state within its answer, and
 // refuses as `event` does: nothing has to be vetted first.
 // Derived from level_control.rs of project-chip/rs-matter 43f61585a4 (see NOTICE), and changed.
 use level_control::answer::Answer;

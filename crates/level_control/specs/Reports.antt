@@ -1,4 +1,4 @@
--- Parts 2, 4 and 5 of document 01 on the state.
+-- Parts 2 to 5 of document 01 on the state.
 use Prim.Native.Nat.{ℕ}
 use mathlib.Core.Bool.{Bool, true, false, cond, not}
 use Rattle.units.specs.Units.{tenthsUp}

@@ -104,7 +104,7 @@ impl LevelControlState {
         told.move_then(moving, since, at, on_off)
     }
 
-    // A missing answer in a move: P, S, L, E.
+    // A missing answer in a move, or to the on reaction's request for MIN: P, S, L, E.
     pub fn move_missing(self, is_end: bool, at: Micros) -> Effect
         ensures { λ r. ⌜ outcomeOf r ≡ moveMissing self «is_end» at ⌝ }
     {

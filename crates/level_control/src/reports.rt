@@ -1,4 +1,4 @@
-// Parts 2, 4 and 5: the remaining time, the answered level and the coupling, on the state.
+// Parts 2 to 5: the remaining time, the options, the answered level and the coupling, on the state.
 // Derived from level_control.rs of project-chip/rs-matter 43f61585a4 (see NOTICE), and changed.
 use crate::answer::Effect;
 use crate::state::LevelControlState;

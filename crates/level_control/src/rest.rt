@@ -98,6 +98,8 @@ impl LevelControlState {
         told.ends(Last::Nothing)
     }
 
+    // Events 11 to 13, past their refusals: the attribute is set, and K says that it is to be stored.
+
     pub fn with_on_level(self, on_level: Level) -> Effect
         ensures { λ r. ⌜ outcomeOf r ≡ withOnLevel self «on_level» ⌝ }
     {

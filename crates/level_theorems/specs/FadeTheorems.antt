@@ -68,7 +68,7 @@ WakesAccepted =
     → InPhase (s .task) (Waiting until) → until .0 ≤ at .0 → s .«last_accepted» .0 ≤ at .0 → at .0 ≤ latest .0
     → accepted s (event at on kind.Wake) ≡ true
 
--- Every fade comes to rest after n answers, whatever levels the device answers and however late, if its waits end and its answers come by 2^62 − 1.
+-- Every fade of at least 1 tenth comes to rest after n answers, whatever levels the device answers and however late, if its waits end and its answers come by 2^62 − 1.
 abbrev pub ComesToRest : Type 0
 ComesToRest =
     (o : Outcome) (c t T : ℕ) (ps : List Reply)
@@ -95,7 +95,7 @@ pub record Key (s : LevelControlState) (c t T : ℕ) (r : Run) : Type 0 where
   pub exact : 1 ≤ r .answers → r .answers < distance t c
       → r .state .«remaining_time» .0 ≡ (100 * T - r .answers * (100 * T / distance t c) + 99) / 100
 
--- With k answers accepted, 1 ≤ k < n, the remaining time shown is ⌈(100·T − k·⌊100·T/n⌋)/100⌉; before the first answer it is what was shown before the fade.
+-- Of a fade of at least 1 tenth: with k answers accepted, 1 ≤ k < n, the remaining time shown is ⌈(100·T − k·⌊100·T/n⌋)/100⌉; before the first answer it is what was shown before the fade.
 abbrev pub ExactKey : Type 0
 ExactKey =
     (o : Outcome) (c t T : ℕ) (es : List Event)
@@ -104,7 +104,7 @@ ExactKey =
 
 -- What is seen, and the task.
 
--- After the list, the request or the wait that is seen to be open is the one that the task keeps.
+-- Of a fade of at least 1 tenth: after the list, the request or the wait that is seen to be open is the one that the task keeps.
 abbrev pub TaskAgrees : Type 0
 TaskAgrees =
     (o : Outcome) (c t T : ℕ) (es : List Event)

@@ -12,7 +12,7 @@ pub fn every_event_holds()
     ensures { λ r. ⌜ Demand1 ⌝ }
 {}
 
-// Demand 3: what every fade shows, after every list of events after its start.
+// Demand 3: what every fade of at least 1 tenth shows, after every list of events after its start.
 pub fn every_fade_holds()
     ensures { λ r. ⌜ EveryFade ⌝ }
 {}
@@ -33,12 +33,12 @@ pub fn reactions_are_covered()
     ensures { λ r. ⌜ ReactionsCovered ⌝ }
 {}
 
-// The remaining time to the tenth, for every k; before the first answer it is what was shown before the fade.
+// The remaining time of such a fade to the tenth, for every k; before the first answer it is what was shown before the fade.
 pub fn exact_key_holds()
     ensures { λ r. ⌜ ExactKey ⌝ }
 {}
 
-// What is seen to be open, a request or a wait, is what the task keeps.
+// What is seen of such a fade to be open, a request or a wait, is what the task keeps.
 pub fn task_agrees()
     ensures { λ r. ⌜ TaskAgrees ⌝ }
 {}
@@ -53,7 +53,7 @@ pub fn wakes_are_accepted()
     ensures { λ r. ⌜ WakesAccepted ⌝ }
 {}
 
-// Progress: every fade comes to rest after n answers, whatever levels the device answers and however late, by 2^62 − 1.
+// Progress: every fade of at least 1 tenth comes to rest after n answers, whatever levels the device answers and however late, by 2^62 − 1.
 pub fn every_fade_comes_to_rest()
     ensures { λ r. ⌜ ComesToRest ⌝ }
 {}

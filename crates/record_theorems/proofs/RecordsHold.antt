@@ -29,11 +29,12 @@ use Rattle.level_theorems.specs.Replies.{Ends, answersFrom}
 use Rattle.level_theorems.proofs.Acceptance.{answers-accepted, wakes-accepted}
 use Rattle.level_theorems.proofs.Demand1Laws.{demand-1}
 use Rattle.level_theorems.proofs.Progress.{comes-to-rest}
+use Rattle.level_theorems.proofs.WaitsEnd.{waits-end}
 use Rattle.sheet.specs.Lines as lines
 use Rattle.sheet.specs.Lines.{readOutcome, recordOutcome, outcomesOf, linesFrom, textOf}
 use Rattle.sheet.proofs.LawsHold.{sheet-laws}
 use Rattle.record_theorems.specs.RecordPlays.{Record, bytesOf, answersOf, answerTo, stateAfter, accepts, seen, onlyOnward, StartsAt}
-use Rattle.record_theorems.specs.RecordTheorems.{RecordsOf, Demand1Recorded, later, EveryFadeRecorded, AnswerRecordsAccepted, WakeRecordsAccepted, EndsRecorded, RecordsComeToRest}
+use Rattle.record_theorems.specs.RecordTheorems.{RecordsOf, Demand1Recorded, later, EveryFadeRecorded, AnswerRecordsAccepted, WakeRecordsAccepted, EndsRecorded, RecordsComeToRest, RecordedWaitsEnd}
 use Rattle.record_theorems.proofs.RecordRuns.{eventsOf, seen-is-play, onward-is, later-is, answer-is, start-state, starts-is}
 use Rattle.record_theorems.proofs.StartFits.{recorded-fits}
 use Rattle.record_theorems.proofs.WrittenRecords.{all-take, all-drop, Written, write-answers}
@@ -140,3 +141,7 @@ records-come-to-rest x up o c t T ps conf w ne pos n bytes time =
       all-answered = ap (λ (r : Run). r .answers) played ∙ ends .all-answered;
       rest = ap (λ (r : Run). r .pending) played ∙ ends .rest;
     }
+
+pub recorded-waits-end : RecordedWaitsEnd
+recorded-waits-end x up o c t T ps conf w ne pos n room =
+    waits-end o c t T ps (starts-is (newState x) up o c t T w) ne pos (recorded-fits x up o c t T conf w) n room

@@ -1,5 +1,5 @@
 -- The demands over records of bytes, damaged ones included, and over the answers that the text is made from.
-use Prim.Native.Nat.{ℕ, _^_, _/_, _≤_, _<_}
+use Prim.Native.Nat.{ℕ, _+_, _*_, _^_, _/_, _≤_, _<_}
 use mathlib.Core.Bool.{Bool, true}
 use mathlib.Core.Path.{_≡_}
 use mathlib.Core.List.{List, [], _∷_, _++_}
@@ -25,7 +25,7 @@ use Rattle.level_control.specs.Starts.{distance}
 use Rattle.level_control.specs.State.{newState}
 use Rattle.level_control.specs.declared.state.LevelControlState.{LevelControlState}
 use Rattle.level_theorems.specs.Demand1.{InPhase}
-use Rattle.level_theorems.specs.Replies.{Reply, answersFrom, inTime}
+use Rattle.level_theorems.specs.Replies.{Reply, answersFrom, inTime, delays}
 use Rattle.sheet.specs.Lines as lines
 use Rattle.sheet.specs.Lines.{linesFrom, textOf}
 use Rattle.sheet.specs.Play.{playOf}
@@ -104,7 +104,7 @@ pub record EndsRecorded (x : Settings) (up : List Record) (o : Outcome) (c t : �
   pub all-answered : seen (started o) after (later x up after) .answers ≡ distance t c
   pub rest : seen (started o) after (later x up after) .pending ≡ Nothing
 
--- Every fade that records start comes to rest after the records of n answers and of the wakes between them, whatever bytes the device answers and however late,
+-- Every fade of at least 1 tenth that records start comes to rest after the records of n answers and of the wakes between them, whatever bytes the device answers and however late,
 -- if its waits end and its answers come by 2^62 − 1.
 abbrev pub RecordsComeToRest : Type 0
 RecordsComeToRest =
@@ -112,3 +112,11 @@ RecordsComeToRest =
     → Configured x → StartsAt (newState x) up o c t T → (c ≡ t → ⊥) → 1 ≤ T → length ps ≡ distance t c → ByteReplies ps
     → inTime (answersFrom (started o) ps) ≡ true
     → EndsRecorded x up o c t (answersFrom (started o) ps)
+
+-- Its waits end and its answers come by 2^62 − 1 if the time of the start, the device's delays and the fade's T tenths add up to at most 2^62 − 1.
+abbrev pub RecordedWaitsEnd : Type 0
+RecordedWaitsEnd =
+    (x : Settings) (up : List Record) (o : Outcome) (c t T : ℕ) (ps : List Reply)
+    → Configured x → StartsAt (newState x) up o c t T → (c ≡ t → ⊥) → 1 ≤ T → length ps ≡ distance t c
+    → o .state .«last_accepted» .0 + delays ps + 100000 * T ≤ latest .0
+    → inTime (answersFrom (started o) ps) ≡ true

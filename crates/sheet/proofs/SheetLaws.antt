@@ -1,15 +1,15 @@
 -- Laws of the sheet: one event more, a line made apart, and a text that fits. Assumes nothing.
-use Prim.Native.Nat.{ℕ, suc, _+_, _-_, _/_, _<_, _≤_, min}
+use Prim.Native.Nat.{ℕ, zero, suc, _+_, _-_, _*_, _/_, _<_, _≤_, min}
 use mathlib.Core.Path.{_≡_, refl, sym, ap, _∙_}
-use mathlib.Core.List.{List, [], _∷_, _++_, append-nil}
+use mathlib.Core.List.{List, [], _∷_, _++_, append-assoc}
 use mathlib.Core.Bool.{true, false}
 use native.Mathlib.Omega.{arith}
-use native.Mathlib.Nat.{zero-add}
+use native.Mathlib.Nat.{zero-add, add-zero}
 use borrow.Author.Tests.{lt-ltb, le-ltb, le-leb, lt-leb}
 use lib.ListN.{length, take, drop, length-append, length-drop}
-use lib.Seq.{drop-drop, length-take-le, sets, sets-eq, take-append-seam, take-length, take-take}
+use lib.Seq.{drop-at, drop-drop, length-take-le, sets, sets-eq, take-add, take-append-seam, take-length, take-take}
 use Rattle.text.specs.Text.{Wrote, most}
-use Rattle.text.proofs.WriteLaws.{then, none-wrote}
+use Rattle.text.proofs.WriteLaws.{then, none-wrote, sets-out}
 use Rattle.text.proofs.DigitLaws.{by-test}
 use Rattle.level_control.specs.Answer.{Outcome, outcomeOf}
 use Rattle.level_control.specs.declared.answer.Effect.{Effect}
@@ -69,28 +69,57 @@ pub state-of : (e : Effect) (o : Outcome) → outcomeOf e ≡ o → e .state ≡
 unfolding outcomeOf
 state-of e o g = ap (λ (x : Outcome). x .state) g
 
--- A part of one record: its length, its line, and the state that it leaves.
-module _ (from : ℕ) (events : List ℕ) (h : from + 20 ≤ length events) where
-  pub part-length : length (take (from + 20 - from) (drop from events)) ≡ 20
-  part-length = rw (twenty from) (length-take-le 20 (drop from events) (rw (length-drop from events) (omega arith)))
+-- The first n records, and the others after them.
 
-  one-record : recordsOf (length (take (from + 20 - from) (drop from events)) / 20) (take (from + 20 - from) (drop from events)) ≡ take 20 (drop from events) ∷ []
-  unfolding recordsOf
-  one-record = rw (part-length, twenty from) (ap (λ (x : List ℕ). x ∷ []) (take-take 20 20 (drop from events) (omega arith)))
+records-take : (n : ℕ) (l : List ℕ) → 20 * n ≤ length l → recordsOf n (take (20 * n) l) ≡ recordsOf n l
+unfolding recordsOf
+records-take zero l h = refl
+records-take (suc n) l h =
+    let more : 20 * suc n ≡ 20 + 20 * n = omega arith in
+    let rest : drop 20 (take (20 + 20 * n) l) ≡ take (20 * n) (drop 20 l)
+    = ap (drop 20) (take-add 20 (20 * n) l) ∙ drop-at (take 20 l) (take (20 * n) (drop 20 l)) 20 (length-take-le 20 l (omega arith)) in
+    let others : recordsOf n (take (20 * n) (drop 20 l)) ≡ recordsOf n (drop 20 l) = records-take n (drop 20 l) (rw (length-drop 20 l) (omega arith)) in
+    rw (more, rest, others, take-take 20 (20 + 20 * n) l (omega arith))
 
-  pub one-line : (index : ℕ) (s : LevelControlState)
-      → linesFrom index (outcomesOf s (recordsOf (length (take (from + 20 - from) (drop from events)) / 20) (take (from + 20 - from) (drop from events))))
-      ≡ outcomeLine index (recordOutcome s (take 20 (drop from events)))
-  unfolding linesFrom outcomesOf
-  one-line index s = rw one-record (append-nil _)
+lines-split : (n k index : ℕ) (s : LevelControlState) (l : List ℕ)
+    → linesFrom index (outcomesOf s (recordsOf (n + k) l))
+    ≡ linesFrom index (outcomesOf s (recordsOf n l)) ++ linesFrom (index + n) (outcomesOf (stateAfter s (recordsOf n l)) (recordsOf k (drop (20 * n) l)))
+unfolding linesFrom outcomesOf recordsOf stateAfter
+lines-split zero k index s l = rw (zero-add, add-zero)
+lines-split (suc n) k index s l =
+    let far : 20 * suc n ≡ 20 + 20 * n = omega arith in
+    let count : suc n + k ≡ suc (n + k) = omega arith in
+    let next : index + suc n ≡ index + 1 + n = omega arith in
+    rw (far, count, next, ← drop-drop (20 * n) 20 l, lines-split n k (index + 1) (recordOutcome s (take 20 l) .state) (drop 20 l), append-assoc)
 
-  pub one-state : (s : LevelControlState)
-      → stateAfter s (recordsOf (length (take (from + 20 - from) (drop from events)) / 20) (take (from + 20 - from) (drop from events)))
-      ≡ recordOutcome s (take 20 (drop from events)) .state
-  unfolding stateAfter
-  one-state s = rw one-record refl
+-- one turn of a loop: the first n of the lines that are left, and then the others
+pub turn-some : (n left index from : ℕ) (s t : LevelControlState) (events : List ℕ) {out mid new : List ℕ} {at q r : ℕ}
+    → length out ≤ most → n ≤ left → t ≡ stateAfter s (recordsOf n (drop from events))
+    → Wrote out at (linesFrom index (outcomesOf s (recordsOf n (drop from events)))) mid q
+    → Wrote mid q (linesFrom (index + n) (outcomesOf t (recordsOf (left - n) (drop (from + 20 * n) events)))) new r
+    → Wrote out at (linesFrom index (outcomesOf s (recordsOf left (drop from events)))) new r
+turn-some n left index from s t events o h et w v =
+    let all : left ≡ n + (left - n) = omega arith in
+    let e = ap (λ (k : ℕ). linesFrom index (outcomesOf s (recordsOf k (drop from events)))) all
+    ∙ lines-split n (left - n) index s (drop from events)
+    ∙ ap (λ (l : List ℕ). linesFrom index (outcomesOf s (recordsOf n (drop from events))) ++ linesFrom (index + n) (outcomesOf (stateAfter s (recordsOf n (drop from events))) (recordsOf (left - n) l))) (drop-drop (20 * n) from events)
+    ∙ ap (λ (u : LevelControlState). linesFrom index (outcomesOf s (recordsOf n (drop from events))) ++ linesFrom (index + n) (outcomesOf u (recordsOf (left - n) (drop (from + 20 * n) events)))) (sym et) in
+    rw e (then o w v)
 
--- the bytes of a line that was made apart
+-- A part of n records: its length, and its records.
+module _ (n from : ℕ) (events : List ℕ) (h : from + 20 * n ≤ length events) where
+  far : from + 20 * n - from ≡ 20 * n
+  far = omega arith
+
+  pub part-length : length (take (from + 20 * n - from) (drop from events)) ≡ 20 * n
+  part-length = rw far (length-take-le (20 * n) (drop from events) (rw (length-drop from events) (omega arith)))
+
+  pub part-records : recordsOf (length (take (from + 20 * n - from) (drop from events)) / 20) (take (from + 20 * n - from) (drop from events)) ≡ recordsOf n (drop from events)
+  part-records =
+      let count : 20 * n / 20 ≡ n = omega arith in
+      rw (part-length, count, far) (records-take n (drop from events) (rw (length-drop from events) (omega arith)))
+
+-- the bytes of lines that were made apart
 pub made-apart : (text : List ℕ) {old line : List ℕ} {n end : ℕ}
     → length old < most → length text ≤ length old → Wrote old 0 text line n → end ≡ min n (length line) → take end line ≡ text
 made-apart text {old} {line} {n} {end} o h w e =
@@ -98,6 +127,11 @@ made-apart text {old} {line} {n} {end} o h w e =
     let long : length line ≡ length text + length (drop (length text) old) = ap length stands ∙ length-append text (drop (length text) old) in
     let whole : end ≡ length text = omega (arith, w .next) in
     rw (whole, stands) (take-append-seam text (drop (length text) old))
+
+-- a text past the end of out is only counted
+pub past-end : (text : List ℕ) {old apart out : List ℕ} {at n r : ℕ}
+    → length old < most → length text ≤ length old → Wrote old 0 text apart n → length out ≤ at → r ≡ min (at + n) most → Wrote out at text out r
+past-end text {old} {apart} {out} {at} {n} {r} o h w beyond e = record { bytes = sym (sets-out out at text beyond); next = omega (arith, w .next) }
 
 -- no line is left
 pub none-left : (k index : ℕ) (s : LevelControlState) (l out : List ℕ) (at : ℕ)

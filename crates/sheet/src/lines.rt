@@ -7,7 +7,7 @@ use text::front;
 use text::line::put_line;
 use text::put_all;
 ghost use mathlib.Core.Path.{_≡_};
-ghost use Prim.Native.Nat.{_+_, _*_, _/_, _≤_};
+ghost use Prim.Native.Nat.{_+_, _*_, _/_, _<_, _≤_, min};
 ghost use lib.ListN.{length};
 ghost use Rattle.text.specs.Text.{Wrote, most, putInRoom};
 ghost use Rattle.level_control.specs.Answer.{outcomeOf};
@@ -63,7 +63,7 @@ pub fn fit(events: &[u8], start: LevelControlState, out: &mut [u8]) -> Played
     ensures { λ r. ⌜ written r ≤ 189 * (length (now (events .entry)) / 20) ⌝ }
 {
     if events.len() / 20 <= out.len() / 189 {
-        let lines = put_in_room(events, start, 1, out);
+        let lines = put_in_room(events, start, 1, out, 0);
         return Played::Text(lines.at);
     }
     let mut none = [0u8; 1];
@@ -75,16 +75,22 @@ pub fn fit(events: &[u8], start: LevelControlState, out: &mut [u8]) -> Played
     Played::Text(need)
 }
 
-// Where the longest lines have room; the first has this index.
-fn put_in_room(events: &[u8], start: LevelControlState, first: u64, out: &mut [u8]) -> Lines
-    requires { ⌜ 189 * (length (now events) / 20) ≤ length (now out) ⌝ }
+// Writes a line for each event from a place on, where out has room there for as many of the longest. `first` is the index of the first line.
+fn put_in_room(
+    events: &[u8],
+    start: LevelControlState,
+    first: u64,
+    out: &mut [u8],
+    place: usize,
+) -> Lines
+    requires { ⌜ place + 189 * (length (now events) / 20) ≤ length (now out) ⌝ }
     requires { ⌜ first + length (now events) ≤ most ⌝ }
-    ensures { λ r. ⌜ Wrote (now (out .entry)) 0 (linesFrom first (outcomesOf start (recordsOf (length (now (events .entry)) / 20) (now (events .entry))))) (now (out .exit)) (r .at) ⌝ }
-    ensures { λ r. ⌜ r .at ≤ 189 * (length (now (events .entry)) / 20) ⌝ }
+    ensures { λ r. ⌜ Wrote (now (out .entry)) place (linesFrom first (outcomesOf start (recordsOf (length (now (events .entry)) / 20) (now (events .entry))))) (now (out .exit)) (r .at) ⌝ }
+    ensures { λ r. ⌜ r .at ≤ place + 189 * (length (now (events .entry)) / 20) ⌝ }
     ensures { λ r. ⌜ r .state ≡ stateAfter start (recordsOf (length (now (events .entry)) / 20) (now (events .entry))) ⌝ }
 {
     let mut state = start;
-    let mut at = 0;
+    let mut at = place;
     let mut from = 0;
     let mut index = first;
     let mut left = events.len() / 20;
@@ -102,7 +108,7 @@ fn put_in_room(events: &[u8], start: LevelControlState, first: u64, out: &mut [u
     }
 }
 
-// As far as they fit, and the position past them: each line is made apart, and then written.
+// Writes as much of the lines as fits, and gives the position past all of them.
 fn put_each(events: &[u8], start: LevelControlState, out: &mut [u8]) -> usize
     ensures { λ r. ⌜ Wrote (now (out .entry)) 0 (textOf start (now (events .entry))) (now (out .exit)) r ⌝ }
     ensures { λ r. ⌜ r ≤ 189 * (length (now (events .entry)) / 20) ⌝ }
@@ -112,15 +118,86 @@ fn put_each(events: &[u8], start: LevelControlState, out: &mut [u8]) -> usize
     let mut from = 0;
     let mut index = 1;
     let mut lines_left = events.len() / 20;
+    let mut apart = [0u8; 1512];
     while 0 < lines_left {
-        let mut line = [0u8; 189];
-        let lines = put_in_room(&events[from..from + 20], state, index, &mut line);
-        let end = front(lines.at, &line);
-        at = put_all(out, at, &line[..end]);
+        let n = next_lines(lines_left, at, out.len());
+        let lines = put_some(
+            &events[from..from + 20 * n],
+            state,
+            index,
+            out,
+            at,
+            &mut apart,
+        );
+        at = lines.at;
         state = lines.state;
-        from += 20;
-        index += 1;
-        lines_left -= 1;
+        from += 20 * n;
+        index += n as u64;
+        lines_left -= n;
     }
     at
+}
+
+// How many lines come next: as many as have room from `at` on at their longest; where these are eight or less, up to eight.
+fn next_lines(left: usize, at: usize, end: usize) -> usize
+    ensures { λ r. ⌜ (r ≤ left) × (0 < left → 0 < r) × (8 < r → at + 189 * r ≤ end) ⌝ }
+{
+    if at < end {
+        let whole = (end - at) / 189;
+        if 8 < whole {
+            if left < whole {
+                return left;
+            }
+            return whole;
+        }
+    }
+    if left < 8 {
+        return left;
+    }
+    8
+}
+
+// The same for some of the events, from a place on. More than eight lines have room at their longest; eight or less are made apart, and copied as far as they fit.
+fn put_some(
+    events: &[u8],
+    start: LevelControlState,
+    first: u64,
+    out: &mut [u8],
+    place: usize,
+    apart: &mut [u8],
+) -> Lines
+    requires { ⌜ (8 < length (now events) / 20 → place + 189 * (length (now events) / 20) ≤ length (now out)) ⌝ }
+    requires { ⌜ length (now apart) ≡ 1512 ⌝ }
+    requires { ⌜ first + length (now events) ≤ most ⌝ }
+    ensures { λ r. ⌜ Wrote (now (out .entry)) place (linesFrom first (outcomesOf start (recordsOf (length (now (events .entry)) / 20) (now (events .entry))))) (now (out .exit)) (r .at) ⌝ }
+    ensures { λ r. ⌜ r .at ≤ place + 189 * (length (now (events .entry)) / 20) ⌝ }
+    ensures { λ r. ⌜ r .state ≡ stateAfter start (recordsOf (length (now (events .entry)) / 20) (now (events .entry))) ⌝ }
+{
+    if 8 < events.len() / 20 {
+        return put_in_room(events, start, first, out, place);
+    }
+    let lines = put_in_room(events, start, first, apart, 0);
+    let state = lines.state;
+    if out.len() <= place {
+        return Lines {
+            at: past(place, lines.at),
+            state: state,
+        };
+    }
+    let end = front(lines.at, apart);
+    let at = put_all(out, place, &apart[..end]);
+    Lines {
+        at: at,
+        state: state,
+    }
+}
+
+// n bytes on, held at usize::MAX.
+fn past(at: usize, n: usize) -> usize
+    ensures { λ r. ⌜ r ≡ min (at + n) most ⌝ }
+{
+    if n <= usize::MAX - at {
+        return at + n;
+    }
+    usize::MAX
 }

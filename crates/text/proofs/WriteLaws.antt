@@ -11,7 +11,7 @@ use lib.Seq.{sets, length-sets, set-out, drop-cons}
 use Rattle.text.specs.Text.{Wrote, most, putInRoom}
 
 -- past the end nothing is written
-sets-out : (l : List ℕ) (i : ℕ) (vs : List ℕ) → length l ≤ i → sets l i vs ≡ l
+pub sets-out : (l : List ℕ) (i : ℕ) (vs : List ℕ) → length l ≤ i → sets l i vs ≡ l
 sets-out l i [] h = refl
 sets-out l i (v ∷ vs) h = rw (set-out l i v h) (sets-out l (suc i) vs (omega arith))
 

@@ -92,7 +92,7 @@ pub fn last_reported(test: bool) -> Last
 }
 
 impl Actions {
-    // Every slot is written in turn, and one that gets no action stays the next free one: so no way forks.
+    // Every slot is written in turn, and one that gets no action stays the next free one: so nothing branches on how many came before.
     pub fn list(self) -> ActionList
         ensures { λ r. ⌜ r ≡ listOf (actionsOf self) ⌝ }
     {

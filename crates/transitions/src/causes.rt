@@ -104,6 +104,7 @@ impl Tests {
             lighting_min_0: false,
             output_short: false,
         };
+        // One by one: that runs faster than a copy of the whole (docs/DECISIONS.md).
         let command = CommandTests {
             invalid_command: command.invalid_command,
             stopped_by_options: command.stopped_by_options,

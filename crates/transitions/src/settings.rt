@@ -1,4 +1,4 @@
-// What is configured, and the attributes that events can set.
+// What is configured, and the attributes.
 // The fields stand in the order that runs fastest, not by meaning (docs/DECISIONS.md).
 // Derived from level_control.rs of project-chip/rs-matter 43f61585a4 (see NOTICE), and changed.
 use crate::types::Level;
@@ -7,7 +7,7 @@ use crate::types::Rate;
 use crate::types::Time;
 use units::Tenths;
 
-// The attributes that events can set, and a reset puts back.
+// The attributes: events set three of them, and a reset puts all back to what is configured.
 pub struct Attributes {
     pub options: OptionsBitmap,
     pub default_move_rate: Rate,

@@ -17,7 +17,7 @@ unfolding textOf
 returns c =
     let written = c .before .before .put-in-room in
     let start = c .before .before .before .before .before .before .before in
-    (fit-yes _ (omega (arith, start .good)) (written .ensures .0) (written .ensures .0) (omega (arith, written .ensures .1 .0, c .before .before .before .before .if1 .taken)), written .ensures .1 .0)
+    (fit-yes _ (omega (arith, start .good)) (written .ensures .0) (written .ensures .0) (omega (arith, written .ensures .1 .0, c .before .before .before .before .if1 .taken)), omega (arith, written .ensures .1 .0))
 
 slice-aggregate-put-each : tie.Need-slice-aggregate-put-each
 slice-aggregate-put-each c = search needs

@@ -13,14 +13,14 @@ use Rattle.sheet.proofs.lines.put_in_room.Statement.{statement}
 use Rattle.sheet.proofs.lines.put_in_room.Tie as tie
 
 abbrev Inv-loop : tie.InvT-loop
-Inv-loop events first out₀ state₀ at₀ from₀ index₀ left₀ out state at from index left =
-    (length out ≡ length out₀) × (189 * left₀ ≤ length out₀) × (from + 20 * left ≤ length events) × (index + left ≤ most) × (at + 189 * left ≤ 189 * left₀)
+Inv-loop events first out₀ place state₀ at₀ from₀ index₀ left₀ out state at from index left =
+    (length out ≡ length out₀) × (at₀ + 189 * left₀ ≤ length out₀) × (from + 20 * left ≤ length events) × (index + left ≤ most) × (at + 189 * left ≤ at₀ + 189 * left₀)
     × ((new : List ℕ) (r : ℕ) → Wrote out at (linesFrom index (outcomesOf state (recordsOf left (drop from events)))) new r
     → Wrote out₀ at₀ (linesFrom index₀ (outcomesOf state₀ (recordsOf left₀ (drop from₀ events)))) new r)
     × (stateAfter state₀ (recordsOf left₀ (drop from₀ events)) ≡ stateAfter state (recordsOf left (drop from events)))
 
 abbrev μ-loop : tie.MeasureT-loop
-μ-loop events first out₀ state₀ at₀ from₀ index₀ left₀ out state at from index left = left
+μ-loop events first out₀ place state₀ at₀ from₀ index₀ left₀ out state at from index left = left
 
 loop-holds : tie.Need-loop-holds Inv-loop μ-loop
 loop-holds c = (refl, omega arith, omega arith, omega arith, omega arith, λ new r w. w, refl)
