@@ -157,7 +157,8 @@ fn next_lines(left: usize, at: usize, end: usize) -> usize
     8
 }
 
-// The same for some of the events, from a place on. More than eight lines have room at their longest; eight or less are made apart, and copied as far as they fit.
+// Writes as much of the lines of some events as fits from a place on, and gives the position past all of them. More than eight have room at their longest;
+// eight or less are made apart, in a buffer that is lent, and copied.
 fn put_some(
     events: &[u8],
     start: LevelControlState,
