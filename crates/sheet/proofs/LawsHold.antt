@@ -12,7 +12,7 @@ use lib.IntN.{ℤ, pos, negsuc}
 use lib.ListN.{length, take, drop, length-append, length-drop}
 use lib.Seq.{sets, sets-eq, take-at, take-all, drop-at, length-take-le}
 use Rattle.text.specs.Text.{ascii, digits, digitsWithin}
-use Rattle.text.proofs.DigitLaws.{by-test}
+use Rattle.text.proofs.WriteLaws.{by-test}
 use Rattle.records.specs.Settings.{settingsRead, settingsReadNumber}
 use Rattle.records.specs.declared.settings.SettingsRead.{SettingsRead}
 use Rattle.records.specs.declared.settings.SettingsRead.the-variants as read

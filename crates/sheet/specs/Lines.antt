@@ -28,11 +28,6 @@ unfoldable pub outcomesOf : LevelControlState → List (List ℕ) → List Outco
 outcomesOf s [] = []
 outcomesOf s (bytes ∷ more) = recordOutcome s bytes ∷ outcomesOf (recordOutcome s bytes .state) more
 
--- and the state that the last one left
-unfoldable pub stateAfter : LevelControlState → List (List ℕ) → LevelControlState
-stateAfter s [] = s
-stateAfter s (bytes ∷ more) = stateAfter (recordOutcome s bytes .state) more
-
 abbrev pub outcomeLine : ℕ → Outcome → List ℕ
 outcomeLine index o = lineOf index (o .number) (o .state .«current_level») (o .state .«remaining_time») (o .actions)
 

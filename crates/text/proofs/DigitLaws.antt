@@ -2,26 +2,16 @@
 use Prim.Native.Nat.{ℕ, zero, suc, _+_, _-_, _*_, _/_, _%_, _^_, _≤_, _<_, zero-le}
 use Prim.Native.Char.{code}
 use mathlib.Core.Path.{_≡_, refl, sym, ap, _∙_}
-use mathlib.Core.Bool.{Bool, true, false}
 use mathlib.Core.List.{List, [], _∷_, _++_, append-assoc}
 use native.Mathlib.Nat.{pow-succ'}
 use native.Mathlib.Numerals.{sub-one}
 use native.Mathlib.Omega.{arith}
-use borrow.Author.Tests.{lt-ltb, le-ltb, ltb-true, ltb-false}
-use lib.Dec.{ltb}
+use borrow.Author.Tests.{lt-ltb, le-ltb}
 use lib.ListN.{length, getD, set, drop, length-append, List·getD-append}
 use lib.Seq.{append-snoc}
-use Rattle.text.specs.Text.{Wrote, most, digits, digitsWithin, threeDigits}
+use Rattle.text.specs.Text.{Room, Wrote, most, digits, digitsWithin, threeDigits}
 use Rattle.text.specs.Laws.{readAfter, readDigits, All, Digit}
-use Rattle.text.proofs.WriteLaws.{then}
-
-by-bool : {G : Type 0} (t : Bool) → (t ≡ true → G) → (t ≡ false → G) → G
-by-bool true f g = f refl
-by-bool false f g = g refl
-
--- a number is below another, or not
-pub by-test : {G : Type 0} (a b : ℕ) → (a < b → G) → (b ≤ a → G) → G
-by-test a b f g = by-bool (ltb a b) (λ e. f (ltb-true a b e)) (λ e. g (ltb-false a b e))
+use Rattle.text.proofs.WriteLaws.{by-test, then}
 
 within-one : (k x : ℕ) → x < 10 → digitsWithin (suc k) x ≡ (code "0" + x) ∷ []
 unfolding digitsWithin
@@ -68,6 +58,20 @@ digits-thousands x b h =
     ∙ rw (digits-more (x / 10) (omega arith) (omega arith), digits-more (x / 10 / 10) (omega arith) (omega arith), thousands, third, second, first)
     (simp append-assoc)
 
+-- digits that have room
+
+pub one-room : {x at : ℕ} {old : List ℕ} → x < 10 → Room old at (digits x) → at < length old
+one-room {x} h room = omega (arith, (rw (digits-one x h) at room) .fits)
+
+pub two-room : {x at : ℕ} {old : List ℕ} → 10 ≤ x → x < 100 → Room old at (digits x) → at + 1 < length old
+two-room {x} h g room = omega (arith, (rw (digits-two x h g) at room) .fits)
+
+pub three-room : {x at : ℕ} {old : List ℕ} → 100 ≤ x → x < 1000 → Room old at (digits x) → Room old at (threeDigits x)
+three-room {x} h g room = rw (digits-three x h g) at room
+
+pub thousands-room : {x at : ℕ} {old : List ℕ} → x < 2 ^ 64 → 1000 ≤ x → Room old at (digits x) → Room old at (digits (x / 1000) ++ threeDigits (x % 1000))
+thousands-room {x} b h room = rw (digits-thousands x b h) at room
+
 -- the thousands, and the last three digits
 pub thousands-done : (x : ℕ) {old mid new : List ℕ} {at p r : ℕ} → x < 2 ^ 64 → 1000 ≤ x → length old ≤ most
     → Wrote old at (digits (x / 1000)) mid p → Wrote mid p (threeDigits (x % 1000)) new r → Wrote old at (digits x) new r
@@ -88,6 +92,20 @@ within-at-most zero x = zero-le
 within-at-most (suc j) x = by-test x 10
     (λ g. rw (within-one j x g) (omega arith))
     (λ g. rw (within-more j x g, length-append) (omega (arith, within-at-most j (x / 10))))
+
+-- there is one at least
+within-some : (k x : ℕ) → 1 ≤ length (digitsWithin (suc k) x)
+within-some k x = by-test x 10
+    (λ g. rw (within-one k x g) (omega arith))
+    (λ g. rw (within-more k x g, length-append) (omega arith))
+
+pub digits-some : (x : ℕ) → 1 ≤ length (digits x)
+unfolding digits
+digits-some x = within-some 19 x
+
+-- without its last digit a number is one shorter
+pub digits-shorter : (x : ℕ) → x < 2 ^ 64 → 10 ≤ x → length (digits x) ≡ length (digits (x / 10)) + 1
+digits-shorter x b h = rw (digits-more x b h, length-append)
 
 pub digits-below : (k x : ℕ) → x < 10 ^ suc k → length (digits x) ≤ suc k
 unfolding digits
@@ -151,12 +169,6 @@ within-only (suc k) x = by-test x 10
 pub digits-only : (x : ℕ) → All Digit (digits x)
 unfolding digits
 digits-only x = within-only 20 x
-
--- some digit stands before the last
-within-some : (k x : ℕ) → 1 ≤ length (digitsWithin (suc k) x)
-within-some k x = by-test x 10
-    (λ g. rw (within-one k x g) (omega arith))
-    (λ g. rw (within-more k x g, length-append) (omega arith))
 
 within-first : (k x : ℕ) → x < 10 ^ suc k → 1 ≤ x → code "0" < getD (digitsWithin (suc k) x) 0 (code "0")
 within-first zero x h p = rw (within-one 0 x (omega arith)) (omega arith)

@@ -1,14 +1,24 @@
--- Laws of `Wrote` and `putInRoom`: one text after another, how far a text moves the position, and a text where it has room. Assumes nothing.
-use Prim.Native.Nat.{ℕ, suc, _+_, _≤_, _<_}
+-- Laws of `Wrote`, `Room` and `putWhole`: one text after another, what has room, and a text that is written whole or not at all. Assumes nothing.
+use Prim.Native.Nat.{ℕ, suc, _+_, _≤_, _<_, min}
 use mathlib.Core.Path.{_≡_, refl, sym, ap, _∙_}
+use mathlib.Core.Bool.{Bool, true, false, cond}
 use mathlib.Core.List.{List, [], _∷_, _++_}
 use native.Mathlib.Nat.{add-zero, add-suc, suc-add}
 use native.Mathlib.Numerals.{add-one}
 use native.Mathlib.Omega.{arith, min-cases}
-use borrow.Author.Tests.{le-leb, lt-leb}
+use borrow.Author.Tests.{le-leb, lt-leb, ltb-true, ltb-false}
+use lib.Dec.{leb, ltb}
 use lib.ListN.{length, set, getD, drop, length-append, drop-of-length-le}
 use lib.Seq.{sets, length-sets, set-out, drop-cons}
-use Rattle.text.specs.Text.{Wrote, most, putInRoom}
+use Rattle.text.specs.Text.{Room, Wrote, most, putWhole}
+
+by-bool : {G : Type 0} (t : Bool) → (t ≡ true → G) → (t ≡ false → G) → G
+by-bool true f g = f refl
+by-bool false f g = g refl
+
+-- a number is below another, or not
+pub by-test : {G : Type 0} (a b : ℕ) → (a < b → G) → (b ≤ a → G) → G
+by-test a b f g = by-bool (ltb a b) (λ e. f (ltb-true a b e)) (λ e. g (ltb-false a b e))
 
 -- past the end nothing is written
 pub sets-out : (l : List ℕ) (i : ℕ) (vs : List ℕ) → length l ≤ i → sets l i vs ≡ l
@@ -38,10 +48,6 @@ then {old} {at} {a} {mid} {p} {b} {new} {r} h w v = record {
 pub none-wrote : {old : List ℕ} {at : ℕ} → at ≤ most → Wrote old at [] old at
 none-wrote h = record { bytes = refl; next = omega arith }
 
--- a text moves the position by its length at most
-pub at-most : {old new text : List ℕ} {at r n : ℕ} → Wrote old at text new r → length text ≤ n → r ≤ at + n
-at-most w h = omega (arith, w .next)
-
 -- a byte of a list, and those after it
 pub tail-more : (tail : List ℕ) (i d : ℕ) {old mid new : List ℕ} {at p r : ℕ} → length old ≤ most → i < length tail
     → Wrote old at (getD tail i d ∷ []) mid p → Wrote mid p (drop (i + 1) tail) new r → Wrote old at (drop i tail) new r
@@ -51,33 +57,56 @@ tail-more tail i d h g w v = rw (drop-cons tail i d g) (then h w (rw add-one at 
 pub tail-done : (tail : List ℕ) (i : ℕ) {old : List ℕ} {at : ℕ} → at ≤ most → length tail ≤ i → Wrote old at (drop i tail) old at
 tail-done tail i h g = rw (drop-of-length-le tail g) (none-wrote h)
 
--- A text of at most 189 bytes where 189 have room.
+-- Texts where they have room.
+
+-- the first of two has it where both have
+pub first-room : {old : List ℕ} {at : ℕ} {a : List ℕ} (b : List ℕ) → Room old at (a ++ b) → Room old at a
+first-room {a = a} b room = record { fits = omega (arith, rw (length-append a b) at (room .fits)) }
+
+-- and the second has it past the first
+pub next-room : {old : List ℕ} {at : ℕ} {a b mid : List ℕ} {p : ℕ} → length old ≤ most → Room old at (a ++ b) → Wrote old at a mid p → Room mid p b
+next-room {old} {at} {a} {b} {mid} h room w =
+    let same : length mid ≡ length old = rw (w .bytes) (length-sets old at a) in
+    record { fits = omega (arith, rw (length-append a b) at (room .fits), same, w .next) }
+
+-- what is measured of a text that does not fit: its length, or 0
+
+pub measures-0 : (at n end : ℕ) → at + n ≤ end → 0 ≡ cond (leb (at + n) end) 0 n
+measures-0 at n end fits = rw (le-leb (at + n) end fits)
+
+pub measures-all : (at n end : ℕ) → end < at + n → n ≡ cond (leb (at + n) end) 0 n
+measures-all at n end full = rw (lt-leb (at + n) end full)
+
+-- A text that is written whole or not at all.
 module _ (old : List ℕ) (at : ℕ) (text : List ℕ) where
-  put-there : at + 189 ≤ length old → putInRoom old at text ≡ (at + length text, sets old at text)
-  unfolding putInRoom
-  put-there room = rw (le-leb (at + 189) (length old) room)
+  pub put-whole : {new : List ℕ} {r : ℕ} → Room old at text → Wrote old at text new r → (r, new) ≡ putWhole old at text
+  unfolding putWhole
+  put-whole room w = rw (le-leb (at + length text) (length old) (room .fits), w .next, w .bytes)
 
-  -- where they have not, nothing is written
-  pub no-room : length old < at + 189 → putInRoom old at text ≡ (at, old)
-  unfolding putInRoom
-  no-room full = rw (lt-leb (at + 189) (length old) full)
+  pub not-put : {r : ℕ} → length old < at + length text → r ≡ min (at + length text) most → (r, old) ≡ putWhole old at text
+  unfolding putWhole
+  not-put full e = rw (lt-leb (at + length text) (length old) full, e)
 
-  -- a text that moved the position by less was put there
-  pub wrote-room : {new : List ℕ} {r : ℕ} → at + 189 ≤ length old → length old ≤ most → r < at + 189
-      → Wrote old at text new r → (r, new) ≡ putInRoom old at text
-  wrote-room {new} {r} room h g w =
-      let e : r ≡ at + length text = omega (arith, w .next) in
-      rw (put-there room, e, w .bytes)
+  module _ (n : ℕ) (measured : n ≡ cond (leb (at + length text) (length old)) 0 (length text)) where
+    pub measured-room : 1 ≤ length text → n ≤ 0 → Room old at text
+    measured-room some none = by-test (length old) (at + length text)
+        (λ full. absurd (omega (arith, rw (lt-leb (at + length text) (length old) full) at measured)))
+        (λ fits. record { fits = fits })
 
-  there : {new : List ℕ} {r : ℕ} → at + 189 ≤ length old → (r, new) ≡ putInRoom old at text → (r ≡ at + length text) × (new ≡ sets old at text)
-  there room e =
-      (ap (λ (p : ℕ × List ℕ). p .0) (e ∙ put-there room), ap (λ (p : ℕ × List ℕ). p .1) (e ∙ put-there room))
+    pub measured-full : 0 < n → (length old < at + length text) × (n ≡ length text)
+    measured-full some = by-test (length old) (at + length text)
+        (λ full. (full, rw (lt-leb (at + length text) (length old) full) at measured))
+        (λ fits. absurd (omega (arith, rw (le-leb (at + length text) (length old) fits) at measured)))
 
-  -- for callers: the text was written whole
-  pub room-wrote : {new : List ℕ} {r : ℕ} → length text ≤ 189 → at + 189 ≤ length old → length old ≤ most
-      → (r, new) ≡ putInRoom old at text → Wrote old at text new r
-  room-wrote l room h e = record { bytes = there room e .1; next = omega (arith, there room e .0) }
+  -- for callers: the position counts on
+  pub whole-next : {new : List ℕ} {r : ℕ} → (r, new) ≡ putWhole old at text → r ≡ min (at + length text) most
+  unfolding putWhole
+  whole-next e = ap (λ (p : ℕ × List ℕ). p .0) e
 
-  -- for callers: the position says how long the text is
-  pub room-length : {new : List ℕ} {r : ℕ} → at + 189 ≤ length old → r ≤ at + 189 → (r, new) ≡ putInRoom old at text → length text ≤ 189
-  room-length room h e = omega (arith, there room e .0)
+  -- for callers: where it has room, it was written
+  pub whole-wrote : {new : List ℕ} {r : ℕ} → Room old at text → (r, new) ≡ putWhole old at text → Wrote old at text new r
+  unfolding putWhole
+  whole-wrote {new} {r} room e =
+      let put : ℕ × List ℕ = (min (at + length text) most, sets old at text) in
+      let there : (r, new) ≡ put = e ∙ rw (le-leb (at + length text) (length old) (room .fits)) in
+      record { bytes = ap (λ (p : ℕ × List ℕ). p .1) there; next = whole-next e }

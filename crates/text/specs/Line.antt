@@ -52,11 +52,13 @@ unfoldable pub actionsText : List Action → List ℕ
 actionsText [] = []
 actionsText (a ∷ more) = actionText a ++ actionsText more
 
+-- a line up to its actions
+abbrev pub numbersText : ℕ → ℕ → Level → Tenths → List ℕ
+numbersText index number level remaining =
+    digits index ++ ascii " " ++ digits number ++ ascii " " ++ levelText level ++ ascii " " ++ digits (remaining .0)
+
 unfoldable pub lineOf : ℕ → ℕ → Level → Tenths → List Action → List ℕ
 lineOf index number level remaining actions =
-    digits index
-    ++ ascii " " ++ digits number
-    ++ ascii " " ++ levelText level
-    ++ ascii " " ++ digits (remaining .0)
+    numbersText index number level remaining
     ++ actionsText actions
     ++ ascii "\n"

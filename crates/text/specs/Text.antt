@@ -1,5 +1,5 @@
 -- What a writer leaves in a slice, and the decimal digits of a number.
-use Prim.Native.Nat.{ℕ, zero, suc, _+_, _/_, _%_, min}
+use Prim.Native.Nat.{ℕ, zero, suc, _+_, _/_, _%_, _≤_, min}
 use Prim.Native.Char.{code}
 use Prim.Native.String.{String}
 use Prim.Native.String as str
@@ -24,9 +24,13 @@ pub record Wrote (old : List ℕ) (at : ℕ) (text new : List ℕ) (r : ℕ) : T
   pub bytes : new ≡ sets old at text
   pub next : r ≡ min (at + length text) most
 
--- a line is written where the longest, 189 bytes, has room, else nothing is
-unfoldable pub putInRoom : List ℕ → ℕ → List ℕ → ℕ × List ℕ
-putInRoom old at text = cond (leb (at + 189) (length old)) (at + length text, sets old at text) (at, old)
+-- all of a text has room from a place on
+pub record Room (old : List ℕ) (at : ℕ) (text : List ℕ) : Type 0 where
+  pub fits : at + length text ≤ length old
+
+-- a text is written where all of it has room, else nothing is; in both cases the position past it is given
+unfoldable pub putWhole : List ℕ → ℕ → List ℕ → ℕ × List ℕ
+putWhole old at text = (min (at + length text) most, cond (leb (at + length text) (length old)) (sets old at text) old)
 
 -- the digits of x, the most significant first; k is enough for them
 unfoldable pub digitsWithin : ℕ → ℕ → List ℕ

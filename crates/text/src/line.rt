@@ -1,5 +1,6 @@
 // A line of the sheet (document 01, "The sheet, whole"): index, number, level or `-`, remaining tenths, actions,
-// single spaces between, a line feed after. It is written where the longest line has room, so that no byte of it asks whether it fits.
+// single spaces between, a line feed after. A line is written whole or not at all, so that no byte of it asks whether it fits.
+use crate::length::line_length;
 use crate::put_decimal;
 use transitions::action_list::Actions;
 use transitions::action_list::Last;
@@ -10,15 +11,16 @@ use units::Tenths;
 ghost use mathlib.Core.Path.{_≡_};
 ghost use mathlib.Core.Bool.{cond};
 ghost use mathlib.Core.List.{[], _∷_, _++_};
-ghost use Prim.Native.Nat.{_+_, _<_, _≤_};
+ghost use Prim.Native.Nat.{_+_, _-_, _<_, _≤_, min};
+ghost use lib.Dec.{leb};
 ghost use lib.ListN.{length};
 ghost use Rattle.transitions.specs.ActionList.{actionsOf, lastOf, thenOf};
 ghost use Rattle.transitions.specs.Events.{act, actCoupled};
 ghost use Rattle.transitions.specs.declared.events.ActionKind.the-variants.{C, W};
-ghost use Rattle.text.specs.Text.{Wrote, digits, putInRoom, threeDigits};
-ghost use Rattle.text.specs.Line.{actionsText, levelText, lineOf, wordText};
+ghost use Rattle.text.specs.Text.{Room, Wrote, digits, most, putWhole, threeDigits};
+ghost use Rattle.text.specs.Line.{actionsText, levelText, lineOf, numbersText, wordText};
 
-// The position past the line, or `at` where the longest line, 189 bytes, has no room.
+// The position past the line; where the line has no room, nothing is written. So the same function measures a line and writes it.
 pub fn put_line(
     out: &mut [u8],
     at: usize,
@@ -28,40 +30,102 @@ pub fn put_line(
     remaining: Tenths,
     actions: Actions,
 ) -> usize
-    ensures { λ r. ⌜ (r, now (out .exit)) ≡ putInRoom (now (out .entry)) at (lineOf index number level remaining (actionsOf actions)) ⌝ }
+    ensures { λ r. ⌜ (r, now (out .exit)) ≡ putWhole (now (out .entry)) at (lineOf index number level remaining (actionsOf actions)) ⌝ }
     ensures { λ r. ⌜ r ≤ at + 189 ⌝ }
 {
-    if out.len() < 189 {
-        return at;
+    let too_long = length_if_too_long(out.len(), at, index, number, level, remaining, actions);
+    if 0 < too_long {
+        return past(at, too_long);
     }
-    if out.len() - 189 < at {
-        return at;
+    let actions_at = put_numbers(out, at, index, number, level, remaining);
+    let feed_at = put_actions(out, actions_at, actions);
+    put_byte(out, feed_at, b'\n')
+}
+
+// The length of a line that does not fit from a place on, or 0. It is measured only where the longest, 189 bytes, might not fit.
+fn length_if_too_long(
+    end: usize,
+    at: usize,
+    index: u64,
+    number: u8,
+    level: Level,
+    remaining: Tenths,
+    actions: Actions,
+) -> usize
+    ensures { λ r. ⌜ r ≡ (let n = length (lineOf index number level remaining (actionsOf actions)) in cond (leb (at + n) end) 0 n) ⌝ }
+    ensures { λ r. ⌜ r ≤ 189 ⌝ }
+{
+    let room = room(end, at);
+    if 189 <= room {
+        return 0;
     }
-    let reports = actions.reports;
-    let coupling = reports.coupling;
-    let then = actions.then;
-    let last = actions.last;
+    let n = line_length(index, number, level, remaining, actions);
+    if n <= room {
+        return 0;
+    }
+    n
+}
+
+// The bytes from a place to the end; none past the end.
+fn room(end: usize, at: usize) -> usize
+    ensures { λ r. ⌜ r ≡ end - at ⌝ }
+{
+    if at < end {
+        return end - at;
+    }
+    0
+}
+
+// n bytes on, held at usize::MAX.
+fn past(at: usize, n: usize) -> usize
+    ensures { λ r. ⌜ r ≡ min (at + n) most ⌝ }
+{
+    if n <= usize::MAX - at {
+        return at + n;
+    }
+    usize::MAX
+}
+
+fn put_numbers(
+    out: &mut [u8],
+    at: usize,
+    index: u64,
+    number: u8,
+    level: Level,
+    remaining: Tenths,
+) -> usize
+    requires { ⌜ Room (now out) at (numbersText index number level remaining) ⌝ }
+    ensures { λ r. ⌜ Wrote (now (out .entry)) at (numbersText index number level remaining) (now (out .exit)) r ⌝ }
+{
     let after_index = put_number(out, at, index);
     let number_at = put_byte(out, after_index, b' ');
     let after_number = put_eight_bits(out, number_at, number);
     let level_at = put_byte(out, after_number, b' ');
     let after_level = put_level(out, level_at, level);
     let remaining_at = put_byte(out, after_level, b' ');
-    let after_remaining = put_number(out, remaining_at, remaining.0 as u64);
-    let after_p = put_if(out, after_remaining, reports.stored, b'P');
+    put_number(out, remaining_at, remaining.0 as u64)
+}
+
+fn put_actions(out: &mut [u8], at: usize, actions: Actions) -> usize
+    requires { ⌜ Room (now out) at (actionsText (actionsOf actions)) ⌝ }
+    ensures { λ r. ⌜ Wrote (now (out .entry)) at (actionsText (actionsOf actions)) (now (out .exit)) r ⌝ }
+{
+    let reports = actions.reports;
+    let coupling = reports.coupling;
+    let then = actions.then;
+    let last = actions.last;
+    let after_p = put_if(out, at, reports.stored, b'P');
     let after_s = put_if(out, after_p, reports.scene, b'S');
     let after_c = put_coupling(out, after_s, coupling);
     let after_l = put_if(out, after_c, reports.level, b'L');
     let after_r = put_if(out, after_l, reports.time, b'R');
     let after_then = put_then(out, after_r, then);
-    let after_last = put_last(out, after_then, last);
-    put_byte(out, after_last, b'\n')
+    put_last(out, after_then, last)
 }
 
 fn put_level(out: &mut [u8], at: usize, level: Level) -> usize
-    requires { ⌜ at + 3 ≤ length (now out) ⌝ }
+    requires { ⌜ Room (now out) at (levelText level) ⌝ }
     ensures { λ r. ⌜ Wrote (now (out .entry)) at (levelText level) (now (out .exit)) r ⌝ }
-    ensures { λ r. ⌜ r ≤ at + 3 ⌝ }
 {
     match level {
         Level::Known(l) => put_eight_bits(out, at, l),
@@ -71,9 +135,8 @@ fn put_level(out: &mut [u8], at: usize, level: Level) -> usize
 
 // A letter that stands alone, where it is called for.
 fn put_if(out: &mut [u8], at: usize, test: bool, letter: u8) -> usize
-    requires { ⌜ at + 2 ≤ length (now out) ⌝ }
+    requires { ⌜ Room (now out) at (cond test (wordText letter) []) ⌝ }
     ensures { λ r. ⌜ Wrote (now (out .entry)) at (cond test (wordText letter) []) (now (out .exit)) r ⌝ }
-    ensures { λ r. ⌜ r ≤ at + 2 ⌝ }
 {
     if test {
         return put_letter(out, at, letter);
@@ -82,9 +145,8 @@ fn put_if(out: &mut [u8], at: usize, test: bool, letter: u8) -> usize
 }
 
 fn put_coupling(out: &mut [u8], at: usize, coupling: Coupling) -> usize
-    requires { ⌜ at + 3 ≤ length (now out) ⌝ }
+    requires { ⌜ Room (now out) at (actionsText (actCoupled coupling)) ⌝ }
     ensures { λ r. ⌜ Wrote (now (out .entry)) at (actionsText (actCoupled coupling)) (now (out .exit)) r ⌝ }
-    ensures { λ r. ⌜ r ≤ at + 3 ⌝ }
 {
     match coupling {
         Coupling::Sent(wanted) => put_c(out, at, wanted),
@@ -93,9 +155,8 @@ fn put_coupling(out: &mut [u8], at: usize, coupling: Coupling) -> usize
 }
 
 fn put_then(out: &mut [u8], at: usize, then: Then) -> usize
-    requires { ⌜ at + 3 ≤ length (now out) ⌝ }
+    requires { ⌜ Room (now out) at (actionsText (thenOf then)) ⌝ }
     ensures { λ r. ⌜ Wrote (now (out .entry)) at (actionsText (thenOf then)) (now (out .exit)) r ⌝ }
-    ensures { λ r. ⌜ r ≤ at + 3 ⌝ }
 {
     match then {
         Then::Nothing => at,
@@ -105,9 +166,8 @@ fn put_then(out: &mut [u8], at: usize, then: Then) -> usize
 }
 
 fn put_last(out: &mut [u8], at: usize, last: Last) -> usize
-    requires { ⌜ at + 25 ≤ length (now out) ⌝ }
+    requires { ⌜ Room (now out) at (actionsText (lastOf last)) ⌝ }
     ensures { λ r. ⌜ Wrote (now (out .entry)) at (actionsText (lastOf last)) (now (out .exit)) r ⌝ }
-    ensures { λ r. ⌜ r ≤ at + 22 ⌝ }
 {
     match last {
         Last::Nothing => at,
@@ -121,9 +181,8 @@ fn put_last(out: &mut [u8], at: usize, last: Last) -> usize
 }
 
 fn put_c(out: &mut [u8], at: usize, wanted: bool) -> usize
-    requires { ⌜ at + 3 ≤ length (now out) ⌝ }
+    requires { ⌜ Room (now out) at (actionsText (act C (cond wanted 1 0))) ⌝ }
     ensures { λ r. ⌜ Wrote (now (out .entry)) at (actionsText (act C (cond wanted 1 0))) (now (out .exit)) r ⌝ }
-    ensures { λ r. ⌜ r ≤ at + 3 ⌝ }
 {
     let value_at = put_letter(out, at, b'C');
     if wanted {
@@ -134,18 +193,16 @@ fn put_c(out: &mut [u8], at: usize, wanted: bool) -> usize
 
 // A letter with a level, or with the number of an error.
 fn put_valued(out: &mut [u8], at: usize, letter: u8, value: u8) -> usize
-    requires { ⌜ at + 5 ≤ length (now out) ⌝ }
+    requires { ⌜ Room (now out) at (wordText letter ++ digits value) ⌝ }
     ensures { λ r. ⌜ Wrote (now (out .entry)) at (wordText letter ++ digits value) (now (out .exit)) r ⌝ }
-    ensures { λ r. ⌜ r ≤ at + 5 ⌝ }
 {
     let value_at = put_letter(out, at, letter);
     put_eight_bits(out, value_at, value)
 }
 
 fn put_w(out: &mut [u8], at: usize, until: u64) -> usize
-    requires { ⌜ at + 25 ≤ length (now out) ⌝ }
+    requires { ⌜ Room (now out) at (actionsText (act W until)) ⌝ }
     ensures { λ r. ⌜ Wrote (now (out .entry)) at (actionsText (act W until)) (now (out .exit)) r ⌝ }
-    ensures { λ r. ⌜ r ≤ at + 22 ⌝ }
 {
     let value_at = put_letter(out, at, b'W');
     put_time(out, value_at, until)
@@ -153,9 +210,8 @@ fn put_w(out: &mut [u8], at: usize, until: u64) -> usize
 
 // A space and a letter.
 fn put_letter(out: &mut [u8], at: usize, letter: u8) -> usize
-    requires { ⌜ at + 2 ≤ length (now out) ⌝ }
+    requires { ⌜ Room (now out) at (wordText letter) ⌝ }
     ensures { λ r. ⌜ Wrote (now (out .entry)) at (wordText letter) (now (out .exit)) r ⌝ }
-    ensures { λ r. ⌜ r ≤ at + 2 ⌝ }
 {
     let letter_at = put_byte(out, at, b' ');
     put_byte(out, letter_at, letter)
@@ -163,9 +219,8 @@ fn put_letter(out: &mut [u8], at: usize, letter: u8) -> usize
 
 // The last digits of a time in µs are written in threes, twice: so only one of 10^9 µs or more is searched for its digits.
 fn put_time(out: &mut [u8], at: usize, x: u64) -> usize
-    requires { ⌜ at + 23 ≤ length (now out) ⌝ }
+    requires { ⌜ Room (now out) at (digits x) ⌝ }
     ensures { λ r. ⌜ Wrote (now (out .entry)) at (digits x) (now (out .exit)) r ⌝ }
-    ensures { λ r. ⌜ r ≤ at + 20 ⌝ }
 {
     if x < 1000 {
         return put_small(out, at, x);
@@ -175,9 +230,8 @@ fn put_time(out: &mut [u8], at: usize, x: u64) -> usize
 }
 
 fn put_thousands(out: &mut [u8], at: usize, x: u64) -> usize
-    requires { ⌜ at + 23 ≤ length (now out) ⌝ }
+    requires { ⌜ Room (now out) at (digits x) ⌝ }
     ensures { λ r. ⌜ Wrote (now (out .entry)) at (digits x) (now (out .exit)) r ⌝ }
-    ensures { λ r. ⌜ r ≤ at + 20 ⌝ }
 {
     if x < 1000 {
         return put_small(out, at, x);
@@ -188,9 +242,8 @@ fn put_thousands(out: &mut [u8], at: usize, x: u64) -> usize
 
 // A number that is mostly small, so that a search for its digits is seldom made.
 fn put_number(out: &mut [u8], at: usize, x: u64) -> usize
-    requires { ⌜ at + 20 ≤ length (now out) ⌝ }
+    requires { ⌜ Room (now out) at (digits x) ⌝ }
     ensures { λ r. ⌜ Wrote (now (out .entry)) at (digits x) (now (out .exit)) r ⌝ }
-    ensures { λ r. ⌜ r ≤ at + 20 ⌝ }
 {
     if x < 1000 {
         return put_small(out, at, x);
@@ -199,18 +252,16 @@ fn put_number(out: &mut [u8], at: usize, x: u64) -> usize
 }
 
 fn put_eight_bits(out: &mut [u8], at: usize, x: u8) -> usize
-    requires { ⌜ at + 3 ≤ length (now out) ⌝ }
+    requires { ⌜ Room (now out) at (digits x) ⌝ }
     ensures { λ r. ⌜ Wrote (now (out .entry)) at (digits x) (now (out .exit)) r ⌝ }
-    ensures { λ r. ⌜ r ≤ at + 3 ⌝ }
 {
     put_small(out, at, x as u64)
 }
 
 // A number of one, two or three digits.
 fn put_small(out: &mut [u8], at: usize, x: u64) -> usize
-    requires { ⌜ (at + 3 ≤ length (now out)) × (x < 1000) ⌝ }
+    requires { ⌜ (Room (now out) at (digits x)) × (x < 1000) ⌝ }
     ensures { λ r. ⌜ Wrote (now (out .entry)) at (digits x) (now (out .exit)) r ⌝ }
-    ensures { λ r. ⌜ r ≤ at + 3 ⌝ }
 {
     if x < 10 {
         out[at] = b'0' + x as u8;
@@ -226,9 +277,8 @@ fn put_small(out: &mut [u8], at: usize, x: u64) -> usize
 
 // All three digits, also where the first are 0.
 fn put_three(out: &mut [u8], at: usize, x: u64) -> usize
-    requires { ⌜ (at + 3 ≤ length (now out)) × (x < 1000) ⌝ }
+    requires { ⌜ (Room (now out) at (threeDigits x)) × (x < 1000) ⌝ }
     ensures { λ r. ⌜ Wrote (now (out .entry)) at (threeDigits x) (now (out .exit)) r ⌝ }
-    ensures { λ r. ⌜ r ≤ at + 3 ⌝ }
 {
     out[at] = b'0' + (x / 100) as u8;
     out[at + 1] = b'0' + (x / 10 % 10) as u8;
@@ -238,9 +288,8 @@ fn put_three(out: &mut [u8], at: usize, x: u64) -> usize
 
 // One byte, where it is known to fit.
 fn put_byte(out: &mut [u8], at: usize, b: u8) -> usize
-    requires { ⌜ at + 1 ≤ length (now out) ⌝ }
+    requires { ⌜ Room (now out) at (b ∷ []) ⌝ }
     ensures { λ r. ⌜ Wrote (now (out .entry)) at (b ∷ []) (now (out .exit)) r ⌝ }
-    ensures { λ r. ⌜ r ≤ at + 1 ⌝ }
 {
     out[at] = b;
     at + 1

@@ -10,8 +10,8 @@ use units::Millis;
 
 pub struct MoveToLevelRequest {
     pub with_on_off: bool,
-    pub level: u8,
     pub transition_time: Time,
+    pub level: u8,
     pub options_mask: OptionsBitmap,
     pub options_override: OptionsBitmap,
 }
@@ -19,16 +19,16 @@ pub struct MoveToLevelRequest {
 pub struct MoveRequest {
     pub with_on_off: bool,
     pub mode: Mode,
-    pub rate: Rate,
     pub options_mask: OptionsBitmap,
+    pub rate: Rate,
     pub options_override: OptionsBitmap,
 }
 
 pub struct StepRequest {
     pub with_on_off: bool,
+    pub transition_time: Time,
     pub mode: Mode,
     pub step_size: u8,
-    pub transition_time: Time,
     pub options_mask: OptionsBitmap,
     pub options_override: OptionsBitmap,
 }
@@ -41,8 +41,8 @@ pub struct StopRequest {
 
 // What a scene recalls: the level that its pairs decide, or none.
 pub struct SceneRequest {
-    pub level: Level,
     pub transition_time: Millis,
+    pub level: Level,
 }
 
 // What the device answers to a request.

@@ -5,13 +5,20 @@ use Rattle.text.proofs.WriteLaws.{none-wrote}
 use Rattle.text.proofs.line.put_then.Statement.{statement}
 use Rattle.text.proofs.line.put_then.Tie as tie
 
+put-letter-requires : tie.Need-put-letter-requires
+unfolding actionsText actionText
+put-letter-requires c κs = rw (c .before .enum-told2 .given .1) at (c .before .before .before .before .pre)
+
+put-c-requires : tie.Need-put-c-requires
+put-c-requires c κs = rw (c .before .before .then .given .1) at (c .before .before .before .before .before .pre)
+
 returns : tie.Need-returns
 unfolding actionsText
-returns c = rw (c .enum-told .given .1) (none-wrote (omega arith), omega arith)
+returns c = rw (c .enum-told .given .1) (none-wrote (omega arith))
 
 returns-2 : tie.Need-returns-2
 unfolding actionsText actionText
-returns-2 c = rw (c .before .before .before .before .enum-told2 .given .1) (c .before .before .put-letter .ensures .0, omega arith)
+returns-2 c = rw (c .before .before .before .before .enum-told2 .given .1) (c .before .before .put-letter .ensures)
 
 returns-3 : tie.Need-returns-3
 returns-3 c = rw (c .before .before .before .before .before .then .given .1) (c .before .before .put-c .ensures)
@@ -22,9 +29,9 @@ put-then-spec =
     (tie.spec
     (λ c. search needs)
     (λ c. search needs)
-    (λ c κs. search needs)
+    put-letter-requires
     (λ c. search needs)
-    (λ c κs. search needs)
+    put-c-requires
     returns
     (λ c. search needs)
     returns-2

@@ -1,0 +1,68 @@
+use Prim.Native.Nat.{_≤_}
+use native.Mathlib.Omega.{arith}
+use borrow.Author.Needs.{needs}
+use lib.ListN.{length}
+use Rattle.text.specs.Text.{most}
+use Rattle.text.proofs.LineLaws.{places-room, places-wrote}
+use Rattle.text.proofs.WriteLaws.{then, first-room, next-room}
+use Rattle.text.proofs.line.put_actions.Statement.{statement}
+use Rattle.text.proofs.line.put_actions.Tie as tie
+
+put-if-requires : tie.Need-put-if-requires
+put-if-requires c κs = first-room _ (first-room _ (first-room _ (first-room _ (first-room _ (first-room _ (places-room _ (c .before .before .before .pre)))))))
+
+put-if-requires-2 : tie.Need-put-if-requires-2
+put-if-requires-2 c κs =
+    let start = c .before .before .before .before .before .before .before in
+    let h : length (start .args .out .now) ≤ most = omega (arith, start .good) in
+    next-room h (first-room _ (first-room _ (first-room _ (first-room _ (first-room _ (places-room _ (start .pre))))))) (c .before .before .before .put-if .ensures)
+
+put-coupling-requires : tie.Need-put-coupling-requires
+put-coupling-requires c κs =
+    let start = c .before .before .before .before .before .before .before .before .before .before .before in
+    let h : length (start .args .out .now) ≤ most = omega (arith, start .good) in
+    next-room h (first-room _ (first-room _ (first-room _ (first-room _ (places-room _ (start .pre)))))) (then h (c .before .before .before .before .before .before .before .put-if .ensures) (c .before .before .before .put-if2 .ensures))
+
+put-if-requires-3 : tie.Need-put-if-requires-3
+put-if-requires-3 c κs =
+    let start = c .before .before .before .before .before .before .before .before .before .before .before .before .before .before .before in
+    let h : length (start .args .out .now) ≤ most = omega (arith, start .good) in
+    next-room h (first-room _ (first-room _ (first-room _ (places-room _ (start .pre))))) (then h (then h (c .before .before .before .before .before .before .before .before .before .before .before .put-if .ensures) (c .before .before .before .before .before .before .before .put-if2 .ensures)) (c .before .before .before .put-coupling .ensures))
+
+put-if-requires-4 : tie.Need-put-if-requires-4
+put-if-requires-4 c κs =
+    let start = c .before .before .before .before .before .before .before .before .before .before .before .before .before .before .before .before .before .before .before in
+    let h : length (start .args .out .now) ≤ most = omega (arith, start .good) in
+    next-room h (first-room _ (first-room _ (places-room _ (start .pre)))) (then h (then h (then h (c .before .before .before .before .before .before .before .before .before .before .before .before .before .before .before .put-if .ensures) (c .before .before .before .before .before .before .before .before .before .before .before .put-if2 .ensures)) (c .before .before .before .before .before .before .before .put-coupling .ensures)) (c .before .before .before .put-if3 .ensures))
+
+put-then-requires : tie.Need-put-then-requires
+put-then-requires c κs =
+    let start = c .before .before .before .before .before .before .before .before .before .before .before .before .before .before .before .before .before .before .before .before .before .before .before in
+    let h : length (start .args .out .now) ≤ most = omega (arith, start .good) in
+    next-room h (first-room _ (places-room _ (start .pre))) (then h (then h (then h (then h (c .before .before .before .before .before .before .before .before .before .before .before .before .before .before .before .before .before .before .before .put-if .ensures) (c .before .before .before .before .before .before .before .before .before .before .before .before .before .before .before .put-if2 .ensures)) (c .before .before .before .before .before .before .before .before .before .before .before .put-coupling .ensures)) (c .before .before .before .before .before .before .before .put-if3 .ensures)) (c .before .before .before .put-if4 .ensures))
+
+put-last-requires : tie.Need-put-last-requires
+put-last-requires c κs =
+    let start = c .before .before .before .before .before .before .before .before .before .before .before .before .before .before .before .before .before .before .before .before .before .before .before .before .before .before .before in
+    let h : length (start .args .out .now) ≤ most = omega (arith, start .good) in
+    next-room h (places-room _ (start .pre)) (then h (then h (then h (then h (then h (c .before .before .before .before .before .before .before .before .before .before .before .before .before .before .before .before .before .before .before .before .before .before .before .put-if .ensures) (c .before .before .before .before .before .before .before .before .before .before .before .before .before .before .before .before .before .before .before .put-if2 .ensures)) (c .before .before .before .before .before .before .before .before .before .before .before .before .before .before .before .put-coupling .ensures)) (c .before .before .before .before .before .before .before .before .before .before .before .put-if3 .ensures)) (c .before .before .before .before .before .before .before .put-if4 .ensures)) (c .before .before .before .put-then .ensures))
+
+returns : tie.Need-returns
+returns c =
+    let start = c .before .before .before .before .before .before .before .before .before .before .before .before .before .before .before .before .before .before .before .before .before .before .before .before .before .before .before .before .before .before in
+    let h : length (start .args .out .now) ≤ most = omega (arith, start .good) in
+    places-wrote _ (then h (then h (then h (then h (then h (then h (c .before .before .before .before .before .before .before .before .before .before .before .before .before .before .before .before .before .before .before .before .before .before .before .before .before .before .put-if .ensures) (c .before .before .before .before .before .before .before .before .before .before .before .before .before .before .before .before .before .before .before .before .before .before .put-if2 .ensures)) (c .before .before .before .before .before .before .before .before .before .before .before .before .before .before .before .before .before .before .put-coupling .ensures)) (c .before .before .before .before .before .before .before .before .before .before .before .before .before .before .put-if3 .ensures)) (c .before .before .before .before .before .before .before .before .before .before .put-if4 .ensures)) (c .before .before .before .before .before .before .put-then .ensures)) (c .before .before .put-last .ensures))
+
+pub put-actions-spec : {M : Type 1} → statement M
+put-actions-spec =
+    tie.close
+    (tie.spec
+    put-if-requires
+    put-if-requires-2
+    put-coupling-requires
+    put-if-requires-3
+    put-if-requires-4
+    put-then-requires
+    put-last-requires
+    (λ c. search needs)
+    returns)
