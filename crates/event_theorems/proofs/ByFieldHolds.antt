@@ -11,7 +11,7 @@ use Rattle.transitions.specs.declared.events.EventKind.the-variants as kind
 use Rattle.level_control.specs.Answer.{refused}
 use Rattle.level_control.specs.Causes.{turnTests, moveTests, stepTests, commandTestsOf}
 use Rattle.level_control.specs.Events.{run, numberOf, eventOf}
-use Rattle.level_control.specs.Rest.{withOnLevel, withDefaultMoveRate, withStartUp}
+use Rattle.level_control.specs.Rest.{onLevelSet, defaultMoveRateSet, startUpCurrentLevelSet}
 use Rattle.level_control.specs.State.{accept}
 use Rattle.level_control.specs.declared.state.LevelControlState.{LevelControlState}
 use Rattle.level_control.proofs.EventLaws.{stoppedIn, event-refused, event-stopped, event-runs, turn-passes, command-passes, TurnPasses, CommandPasses}
@@ -28,7 +28,7 @@ not-true false e = sym e
 module _ (s : LevelControlState) (at : Micros) (on : Bool) where
   run-gives : (k : EventKind) → TurnPasses (turnTests s at (turnOf k)) → CommandPasses (commandTestsOf s on k)
       → run (accept s at) k at on ≡ gives s (brings s k) at on
-  unfolding run turnTests commandTestsOf moveTests stepTests withOnLevel withDefaultMoveRate withStartUp accept
+  unfolding run turnTests commandTestsOf moveTests stepTests onLevelSet defaultMoveRateSet startUpCurrentLevelSet accept
   run-gives kind.StartUp turn command = start-up-gives s at on
   run-gives (kind.MoveToLevel r) turn command = move-to-level-gives s at on r
   run-gives (kind.Move r) turn command = move-gives s at on r (command .valid)

@@ -53,7 +53,7 @@ use Rattle.level_control.specs.Targets.{goToBy, goTo, movedToLevel, step
 use Rattle.level_control.specs.Fades.{restored, fadeEndedBy, fadeEnded, fadeThen, fadeGoesOn, fadeTold, moveToLevelTransition, fadeMissing, deviceFailed, fadeAnswered, fadeWoken}
 use Rattle.level_control.specs.Moves.{moveBy, moveGoesOn, moveAt, beginMove, moveNext, moveThen, moveEnds, moveTransition, moveMissing, moveAnswered, rateBy}
 use Rattle.level_control.specs.Reactions.{turnedOn, onTo, onGoesOn, onAnswered, turnedOff, switched}
-use Rattle.level_control.specs.Rest.{startUpLevel, startUpAt, startedUp, storedStartUp, startUpAnswered, updated, withOnLevel, withDefaultMoveRate, withStartUp, resetAll}
+use Rattle.level_control.specs.Rest.{startUpLevel, startUpAt, startedUp, storedStartUp, startUpAnswered, updated, onLevelSet, defaultMoveRateSet, startUpCurrentLevelSet, resetAll}
 use Rattle.level_control.specs.Causes.{turnTests, commandTestsOf}
 use Rattle.level_control.specs.Events.{fadeAnsweredIn, moveAnsweredIn, answeredIn, answered, wokenIn, woken, run, numberOf, eventOf}
 use Rattle.level_control.specs.declared.reports.Told.{Told}
@@ -184,7 +184,7 @@ woken-zero s at on = by (s .task)
     by (task.OnReaction r) = refl
 
 pub run-zero : (s : LevelControlState) (k : EventKind) (at : Micros) (on : Bool) → run s k at on .number ≡ 0
-unfolding run startedUp movedToLevel beginMove stopped switched turnedOn turnedOff recalled updated withOnLevel withDefaultMoveRate withStartUp resetAll
+unfolding run startedUp movedToLevel beginMove stopped switched turnedOn turnedOff recalled updated onLevelSet defaultMoveRateSet startUpCurrentLevelSet resetAll
 run-zero s kind.StartUp at on = by (startUpLevel s)
   where
     by : (l : Level) → Zero (startUpAt l s)

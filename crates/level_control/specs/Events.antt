@@ -22,7 +22,7 @@ use Rattle.level_control.specs.Targets.{quiet, movedToLevel, stepped, re
 use Rattle.level_control.specs.Fades.{fadeAnswered, fadeWoken}
 use Rattle.level_control.specs.Moves.{beginMove, moveGoesOn, moveAnswered}
 use Rattle.level_control.specs.Reactions.{switched, onAnswered}
-use Rattle.level_control.specs.Rest.{startedUp, startUpAnswered, updated, withOnLevel, withDefaultMoveRate, withStartUp, resetAll}
+use Rattle.level_control.specs.Rest.{startedUp, startUpAnswered, updated, onLevelSet, defaultMoveRateSet, startUpCurrentLevelSet, resetAll}
 use Rattle.level_control.specs.Causes.{turnTests, commandTestsOf}
 use Rattle.level_control.specs.declared.state.LevelControlState.{LevelControlState}
 
@@ -71,9 +71,9 @@ run s (kind.OnOffChanged value) at on = switched s value at on
 run s (kind.Scene r) at on = recalled s r at on
 run s (kind.DeviceUpdate level) at on = updated s level at
 run s kind.DeviceStop at on = stopped s
-run s (kind.SetOnLevel level) at on = withOnLevel s level
-run s (kind.SetDefaultMoveRate rate) at on = withDefaultMoveRate s rate
-run s (kind.SetStartUpCurrentLevel level) at on = withStartUp s level
+run s (kind.SetOnLevel level) at on = onLevelSet s level
+run s (kind.SetDefaultMoveRate rate) at on = defaultMoveRateSet s rate
+run s (kind.SetStartUpCurrentLevel level) at on = startUpCurrentLevelSet s level
 run s kind.FactoryReset at on = resetAll s
 
 -- the number of the first cause that refuses an event, or 0

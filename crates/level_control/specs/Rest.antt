@@ -63,8 +63,8 @@ updated s level at =
 
 -- events 11 to 13, past their refusals: "setting to be stored"
 
-unfoldable pub withOnLevel : LevelControlState → Level → Outcome
-withOnLevel s level =
+unfoldable pub onLevelSet : LevelControlState → Level → Outcome
+onLevelSet s level =
     done
     (withAttributes s
     (record {
@@ -78,8 +78,8 @@ withOnLevel s level =
     }))
     (act K 0)
 
-unfoldable pub withDefaultMoveRate : LevelControlState → Rate → Outcome
-withDefaultMoveRate s rate =
+unfoldable pub defaultMoveRateSet : LevelControlState → Rate → Outcome
+defaultMoveRateSet s rate =
     done
     (withAttributes s
     (record {
@@ -93,8 +93,8 @@ withDefaultMoveRate s rate =
     }))
     (act K 0)
 
-unfoldable pub withStartUp : LevelControlState → Level → Outcome
-withStartUp s level =
+unfoldable pub startUpCurrentLevelSet : LevelControlState → Level → Outcome
+startUpCurrentLevelSet s level =
     done
     (withAttributes s
     (record {

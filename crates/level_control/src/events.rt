@@ -83,9 +83,9 @@ impl LevelControlState {
             EventKind::Scene(request) => self.recalled(request, at, on_off),
             EventKind::DeviceUpdate(level) => self.updated(level, at),
             EventKind::DeviceStop => self.stopped(),
-            EventKind::SetOnLevel(level) => self.with_on_level(level),
-            EventKind::SetDefaultMoveRate(rate) => self.with_default_move_rate(rate),
-            EventKind::SetStartUpCurrentLevel(level) => self.with_start_up(level),
+            EventKind::SetOnLevel(level) => self.on_level_set(level),
+            EventKind::SetDefaultMoveRate(rate) => self.default_move_rate_set(rate),
+            EventKind::SetStartUpCurrentLevel(level) => self.start_up_current_level_set(level),
             EventKind::FactoryReset => self.reset_all(),
             // These have a turn of their own, and never come here.
             EventKind::StartUp => self.doing(Last::Nothing),

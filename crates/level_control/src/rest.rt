@@ -16,7 +16,7 @@ use units::Millis;
 use units::numbers;
 ghost use mathlib.Core.Path.{_≡_};
 ghost use Rattle.level_control.specs.Answer.{outcomeOf};
-ghost use Rattle.level_control.specs.Rest.{resetAll, startUpAnswered, startUpLevel, startedUp, storedStartUp, updated, withDefaultMoveRate, withOnLevel, withStartUp};
+ghost use Rattle.level_control.specs.Rest.{defaultMoveRateSet, onLevelSet, resetAll, startUpAnswered, startUpCurrentLevelSet, startUpLevel, startedUp, storedStartUp, updated};
 
 impl LevelControlState {
     // The start-up level within MIN..MAX, else the stored one as it is.
@@ -100,8 +100,8 @@ impl LevelControlState {
 
     // Events 11 to 13, past their refusals: the attribute is set, and K says that it is to be stored.
 
-    pub fn with_on_level(self, on_level: Level) -> Effect
-        ensures { λ r. ⌜ outcomeOf r ≡ withOnLevel self «on_level» ⌝ }
+    pub fn on_level_set(self, on_level: Level) -> Effect
+        ensures { λ r. ⌜ outcomeOf r ≡ onLevelSet self «on_level» ⌝ }
     {
         let attributes = self.attributes;
         let next = Attributes {
@@ -111,8 +111,8 @@ impl LevelControlState {
         self.with_attributes(next).doing(Last::K)
     }
 
-    pub fn with_default_move_rate(self, default_move_rate: Rate) -> Effect
-        ensures { λ r. ⌜ outcomeOf r ≡ withDefaultMoveRate self «default_move_rate» ⌝ }
+    pub fn default_move_rate_set(self, default_move_rate: Rate) -> Effect
+        ensures { λ r. ⌜ outcomeOf r ≡ defaultMoveRateSet self «default_move_rate» ⌝ }
     {
         let attributes = self.attributes;
         let next = Attributes {
@@ -122,8 +122,8 @@ impl LevelControlState {
         self.with_attributes(next).doing(Last::K)
     }
 
-    pub fn with_start_up(self, start_up_current_level: Level) -> Effect
-        ensures { λ r. ⌜ outcomeOf r ≡ withStartUp self «start_up_current_level» ⌝ }
+    pub fn start_up_current_level_set(self, start_up_current_level: Level) -> Effect
+        ensures { λ r. ⌜ outcomeOf r ≡ startUpCurrentLevelSet self «start_up_current_level» ⌝ }
     {
         let attributes = self.attributes;
         let next = Attributes {

@@ -34,7 +34,7 @@ use Rattle.level_control.specs.Targets.{quiet, movedToLevel, steppedLevel, step
 use Rattle.level_control.specs.Moves.{moveMissing}
 use Rattle.level_control.specs.Fades.{deviceFailed}
 use Rattle.level_control.specs.Reactions.{onAnswered, turnedOn, turnedOff, switched}
-use Rattle.level_control.specs.Rest.{startUpLevel, startUpAt, startedUp, updated, withOnLevel, withDefaultMoveRate, withStartUp, resetAll}
+use Rattle.level_control.specs.Rest.{startUpLevel, startUpAt, startedUp, updated, onLevelSet, defaultMoveRateSet, startUpCurrentLevelSet, resetAll}
 use Rattle.level_control.specs.Causes.{moveToLevelTests, stepTests, sceneTestsAt, sceneTests, commandTestsOf}
 use Rattle.level_control.specs.Events.{fadeAnsweredIn, moveAnsweredIn, answeredIn, answered, wokenIn, woken, run}
 use Rattle.level_control.specs.Run.{isOnward, withLevel}
@@ -165,7 +165,7 @@ module _ (s : LevelControlState) (at : Micros) (on : Bool) where
   wake-none (task.OnReaction r) q = stays q
 
   pub runs-none : (k : EventKind) → stoppedIn s (event at on k) ≡ false → NoneNamed s (event at on k) → Runs k
-  unfolding run startedUp accept withTask withAttributes putBack stopped switched turnedOn answered woken updated withOnLevel withDefaultMoveRate withStartUp resetAll
+  unfolding run startedUp accept withTask withAttributes putBack stopped switched turnedOn answered woken updated onLevelSet defaultMoveRateSet startUpCurrentLevelSet resetAll
   runs-none kind.StartUp free n = by (startUpLevel (accept s at))
     where
       by : (l : Level) → Becomes (Reacts kind.StartUp) (s .task) false (startUpAt l (accept s at) .state .task)

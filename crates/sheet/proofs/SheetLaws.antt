@@ -2,11 +2,10 @@
 use Prim.Native.Nat.{ℕ, zero, suc, _+_, _-_, _*_, _/_, _<_, _≤_, min}
 use mathlib.Core.Path.{_≡_, refl, sym, ap, _∙_}
 use mathlib.Core.List.{List, [], _∷_, _++_, append-assoc}
-use mathlib.Core.Bool.{true, false, cond}
+use mathlib.Core.Bool.{true, false}
 use native.Mathlib.Omega.{arith}
 use native.Mathlib.Nat.{zero-add}
 use borrow.Author.Tests.{lt-ltb, le-ltb, le-leb, lt-leb}
-use lib.Dec.{leb}
 use lib.ListN.{length, take, drop, length-append, length-drop, take-append-drop}
 use lib.Seq.{drop-append-le, drop-drop, length-take-le, sets, sets-eq, take-length}
 use Rattle.text.specs.Text.{Room, Wrote, most, putWhole}
@@ -86,17 +85,11 @@ at-most n e = by-test 5120 n (λ h. absurd (never (rw (le-ltb n 20 (omega arith)
 pub tail-is : (l : List ℕ) → take (length l - 20) (drop 20 l) ≡ drop 20 l
 tail-is l = ap (λ (n : ℕ). take n (drop 20 l)) (sym (length-drop 20 l)) ∙ take-length (drop 20 l)
 
--- all of the room holds so many of the longest lines, or there is none
-pub sure : (lines end : ℕ) {room : ℕ} → room ≡ cond (leb lines (end / 189)) end 0 → (room ≤ end) × (0 < room → (room ≡ end) × (189 * lines ≤ end))
-sure lines end given = by-test (end / 189) lines
-    (λ few. let e = rw (lt-leb lines (end / 189) few) at given in (omega (arith, e), λ some. absurd (omega (arith, e))))
-    (λ enough. let e = rw (le-leb lines (end / 189) enough) at given in (omega (arith, e), λ some. (e, omega arith)))
-
--- A part of out was lent, and came back.
 length-zero : (l : List ℕ) → length l ≡ 0 → l ≡ []
 length-zero [] e = refl
 length-zero (x ∷ l) e = absurd (omega arith)
 
+-- A part of out was lent, and came back.
 module _ (out part : List ℕ) (room : ℕ) (inside : room ≤ length out) (kept : length part ≡ length (take room out)) where
   pub length-back : length (part ++ drop room out) ≡ length out
   length-back = rw (length-append part (drop room out), kept, length-drop room out) (omega (arith, length-take-le room out inside))

@@ -5,9 +5,7 @@ use records::events::EventRead;
 use records::events::read_event;
 use text::line::put_line;
 ghost use mathlib.Core.Path.{_≡_};
-ghost use mathlib.Core.Bool.{cond};
-ghost use Prim.Native.Nat.{_+_, _*_, _/_, _≤_, min};
-ghost use lib.Dec.{leb};
+ghost use Prim.Native.Nat.{_+_, _*_, _/_, _<_, _≤_, min};
 ghost use lib.ListN.{length};
 ghost use Rattle.text.specs.Text.{Room, Wrote, most, putWhole};
 ghost use Rattle.level_control.specs.Answer.{outcomeOf};
@@ -71,7 +69,7 @@ pub fn fit(events: &[u8], start: LevelControlState, out: &mut [u8]) -> Played
 
 // All of the room where it holds so many of the longest lines, else none.
 fn sure_room(lines: usize, end: usize) -> usize
-    ensures { λ r. ⌜ r ≡ cond (leb lines (end / 189)) end 0 ⌝ }
+    ensures { λ r. ⌜ (r ≤ end) × (0 < r → (r ≡ end) × (189 * lines ≤ end)) ⌝ }
 {
     if lines <= end / 189 {
         return end;

@@ -1,5 +1,5 @@
 -- The text in document 01's own words: laws for every value, by which the definitions of this folder can be believed.
-use Prim.Native.Nat.{ℕ, suc, _+_, _-_, _*_, _^_, _≤_, _<_}
+use Prim.Native.Nat.{ℕ, suc, _+_, _-_, _*_, _^_, _≤_, _<_, min}
 use Prim.Native.Char.{code}
 use mathlib.Core.Bool.{cond}
 use mathlib.Core.Path.{_≡_}
@@ -14,7 +14,7 @@ use Rattle.transitions.specs.declared.events.Action.{Action}
 use Rattle.transitions.specs.declared.events.ActionKind.the-variants.{P, S, C, D, L, R, W, E, K, X}
 use Rattle.transitions.specs.declared.types.Level.{Level}
 use Rattle.transitions.specs.declared.types.Level.the-variants.{Known, Missing}
-use Rattle.text.specs.Text.{ascii, most, Wrote, digits}
+use Rattle.text.specs.Text.{ascii, most, Wrote, digits, putWhole}
 use Rattle.text.specs.Line.{letterOf, showsValue, levelText, lineOf}
 
 -- what digits read as, after a number that was read before them: each counts ten of the next
@@ -98,3 +98,9 @@ pub record Laws : Type 0 where
   -- a position past the slice's end says that the text did not fit
   pub too-long : (old : List ℕ) (at : ℕ) (text new : List ℕ) (r : ℕ) → length old < most → Wrote old at text new r
       → (length old < r) ↔ (length old < at + length text)
+  -- what is written whole or not at all stands where it has room, and the bytes before and past it stay
+  pub whole-stands : (old : List ℕ) (at : ℕ) (text : List ℕ) → length old ≤ most → at + length text ≤ length old
+      → (putWhole old at text .0 ≡ at + length text) × (putWhole old at text .1 ≡ take at old ++ text ++ drop (at + length text) old)
+  -- where it has not, all stay, and the position counts on
+  pub whole-keeps : (old : List ℕ) (at : ℕ) (text : List ℕ) → length old < at + length text
+      → (putWhole old at text .0 ≡ min (at + length text) most) × (putWhole old at text .1 ≡ old)

@@ -8,6 +8,8 @@ use crate::types::Time;
 use units::Micros;
 use units::Millis;
 
+// The fields of a request stand in the order that runs fastest, not by meaning (docs/DECISIONS.md).
+
 pub struct MoveToLevelRequest {
     pub with_on_off: bool,
     pub transition_time: Time,

@@ -8,7 +8,7 @@ use Rattle.text.specs.Text.{most}
 use Rattle.text.proofs.WriteLaws.{by-test}
 use Rattle.sheet.specs.Lines.{textOf}
 use Rattle.sheet.specs.Play.{fitted}
-use Rattle.sheet.proofs.SheetLaws.{fit-yes, fit-no, length-back, none-back, sure}
+use Rattle.sheet.proofs.SheetLaws.{fit-yes, fit-no, length-back, none-back}
 use Rattle.sheet.proofs.lines.fit.Statement.{statement}
 use Rattle.sheet.proofs.lines.fit.Tie as tie
 
@@ -22,9 +22,8 @@ abbrev μ-loop : tie.MeasureT-loop
 
 loop-holds : tie.Need-loop-holds Inv-loop μ-loop
 loop-holds c =
-    let args = c .before .before .before .args in
-    let given = sure (length (args .events .now) / 20) (length (args .out .now)) (c .sure-room .ensures) in
-    (refl, given .0, λ some. (given .1 some .0, omega (arith, given .1 some .1)))
+    let given = c .sure-room .ensures in
+    (refl, omega (arith, given .0), λ some. (omega (arith, given .1 some), omega (arith, given .1 some)))
 
 slice-aggregate-put-each : tie.Need-slice-aggregate-put-each Inv-loop μ-loop
 slice-aggregate-put-each c =
@@ -46,14 +45,14 @@ returns : tie.Need-returns Inv-loop μ-loop
 returns c =
     let put = c .before .before .before .put-each in
     let head = c .before .before .before .before .before .loop in
-    (fit-yes (head .out) (put .last .1 .1 .0) (head .room) (head .inv .1) (put .kept .1 .1 .0) _ (below (c .before .before .before)) (put .ensures .0) (c .if1 .taken) (put .ensures .1 .0) ∙ ap (fitted _) (head .inv .0), put .ensures .1 .1)
+    (fit-yes (head .out) (put .last .1 .1 .0) (head .room) (head .inv .1) (put .kept .1 .1 .0) _ (below (c .before .before .before)) (put .ensures .0) (omega (arith, c .if1 .taken)) (put .ensures .1 .0) ∙ ap (fitted _) (head .inv .0), put .ensures .1 .1)
 
 returns-2 : tie.Need-returns-2 Inv-loop μ-loop
 returns-2 c =
     let put = c .before .before .before .before .put-each in
     let head = c .before .before .before .before .before .before .loop in
     let same = length-back (head .out) (put .last .1 .1 .0) (head .room) (head .inv .1) (put .kept .1 .1 .0) in
-    (fit-no (head .out) (put .last .1 .1 .0) (head .room) (head .inv .1) (put .kept .1 .1 .0) _ (none (c .before .before .before .before) (c .before .if1 .left)) (put .ensures .0) (omega (arith, same, c .if2 .taken)) ∙ ap (fitted _) (head .inv .0), zero-le)
+    (fit-no (head .out) (put .last .1 .1 .0) (head .room) (head .inv .1) (put .kept .1 .1 .0) _ (none (c .before .before .before .before) (omega (arith, c .before .if1 .left))) (put .ensures .0) (omega (arith, same, c .if2 .taken)) ∙ ap (fitted _) (head .inv .0), zero-le)
 
 loop-less : tie.Need-loop-less Inv-loop μ-loop
 loop-less c =
@@ -67,7 +66,7 @@ loop-again c =
     let put = c .before .before .before .before .put-each in
     let head = c .before .before .before .before .before .before .loop in
     let same = length-back (head .out) (put .last .1 .1 .0) (head .room) (head .inv .1) (put .kept .1 .1 .0) in
-    let back = none-back (head .out) (put .last .1 .1 .0) (head .room) (head .inv .1) (put .kept .1 .1 .0) (none (c .before .before .before .before) (c .before .if1 .left)) in
+    let back = none-back (head .out) (put .last .1 .1 .0) (head .room) (head .inv .1) (put .kept .1 .1 .0) (none (c .before .before .before .before) (omega (arith, c .before .if1 .left))) in
     (back ∙ head .inv .0, omega arith, λ some. (refl, omega (arith, same, put .ensures .0, c .if2 .left, below (c .before .before .before .before))))
 
 pub fit-spec : {M : Type 1} → statement M

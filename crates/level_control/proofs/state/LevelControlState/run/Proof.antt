@@ -39,15 +39,15 @@ returns-8 c = simp (c .stopped2 .ensures, c .before .enum-told2 .given .1)
 
 returns-9 : tie.Need-returns-9
 unfolding run
-returns-9 c = simp (c .with-on-level .ensures, c .before .before .kind7 .given .1)
+returns-9 c = simp (c .on-level-set .ensures, c .before .before .kind7 .given .1)
 
 returns-10 : tie.Need-returns-10
 unfolding run
-returns-10 c = simp (c .with-default-move-rate .ensures, c .before .before .kind8 .given .1)
+returns-10 c = simp (c .default-move-rate-set .ensures, c .before .before .kind8 .given .1)
 
 returns-11 : tie.Need-returns-11
 unfolding run
-returns-11 c = simp (c .with-start-up .ensures, c .before .before .kind9 .given .1)
+returns-11 c = simp (c .start-up-current-level-set .ensures, c .before .before .kind9 .given .1)
 
 returns-12 : tie.Need-returns-12
 unfolding run
