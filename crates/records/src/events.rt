@@ -33,26 +33,28 @@ pub enum EventRead {
 pub fn read_event(bytes: &[u8]) -> EventRead
     ensures { λ r. ⌜ r ≡ eventRead (now (bytes .entry)) ⌝ }
 {
-    if has_marks(bytes, 0x45) & is_flag(bytes, 3) {
-        let kind = byte(bytes, 2);
-        return match kind {
-            0 => read_start_up(bytes),
-            1 => read_move_to_level(bytes),
-            2 => read_move(bytes),
-            3 => read_step(bytes),
-            4 => read_stop(bytes),
-            5 => read_answer(bytes),
-            6 => read_wake(bytes),
-            7 => read_on_off_changed(bytes),
-            8 => read_scene(bytes),
-            9 => read_device_update(bytes),
-            10 => read_device_stop(bytes),
-            11 => read_set_on_level(bytes),
-            12 => read_set_default_move_rate(bytes),
-            13 => read_set_start_up_current_level(bytes),
-            14 => read_factory_reset(bytes),
-            _ => EventRead::RecordWrong,
-        };
+    if has_marks(bytes, 0x45) {
+        if is_flag(bytes, 3) {
+            let kind = byte(bytes, 2);
+            return match kind {
+                0 => read_start_up(bytes),
+                1 => read_move_to_level(bytes),
+                2 => read_move(bytes),
+                3 => read_step(bytes),
+                4 => read_stop(bytes),
+                5 => read_answer(bytes),
+                6 => read_wake(bytes),
+                7 => read_on_off_changed(bytes),
+                8 => read_scene(bytes),
+                9 => read_device_update(bytes),
+                10 => read_device_stop(bytes),
+                11 => read_set_on_level(bytes),
+                12 => read_set_default_move_rate(bytes),
+                13 => read_set_start_up_current_level(bytes),
+                14 => read_factory_reset(bytes),
+                _ => EventRead::RecordWrong,
+            };
+        }
     }
     EventRead::RecordWrong
 }

@@ -275,14 +275,16 @@ fn put_small(out: &mut [u8], at: usize, x: u64) -> usize
     put_three(out, at, x)
 }
 
-// All three digits, also where the first are 0.
+// All three digits, also where the first are 0. Two divisions are enough for them.
 fn put_three(out: &mut [u8], at: usize, x: u64) -> usize
     requires { ⌜ (Room (now out) at (threeDigits x)) × (x < 1000) ⌝ }
     ensures { λ r. ⌜ Wrote (now (out .entry)) at (threeDigits x) (now (out .exit)) r ⌝ }
 {
-    out[at] = b'0' + (x / 100) as u8;
-    out[at + 1] = b'0' + (x / 10 % 10) as u8;
-    out[at + 2] = b'0' + (x % 10) as u8;
+    let tens = x / 10;
+    let hundreds = x / 100;
+    out[at] = b'0' + hundreds as u8;
+    out[at + 1] = b'0' + (tens - 10 * hundreds) as u8;
+    out[at + 2] = b'0' + (x - 10 * tens) as u8;
     at + 3
 }
 

@@ -13,9 +13,9 @@ pub struct Attributes {
     pub default_move_rate: Rate,
     pub start_up_current_level: Level,
     pub on_off_transition_time: Tenths,
-    pub on_transition_time: Time,
-    pub on_level: Level,
     pub off_transition_time: Time,
+    pub on_level: Level,
+    pub on_transition_time: Time,
 }
 
 // What was configured: the source's associated constants of the hooks.
@@ -24,7 +24,7 @@ pub struct Settings {
     pub attributes: Attributes,
     pub coupled: bool,
     pub min_level: u8,
-    pub max_level: u8,
     pub lighting: bool,
+    pub max_level: u8,
     pub current_level: Level,
 }

@@ -72,10 +72,10 @@ pub enum Task {
 // What is asked of a fade that is to begin.
 pub struct FadeRequest {
     pub with_on_off: bool,
-    pub scene_apply: bool,
     pub restores: bool,
-    pub target: u8,
     pub transition_time: Tenths,
+    pub scene_apply: bool,
+    pub target: u8,
 }
 
 // How a fade begins: at its target already, from no level, or with a first request.
