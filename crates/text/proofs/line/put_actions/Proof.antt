@@ -9,49 +9,79 @@ use Rattle.text.proofs.line.put_actions.Statement.{statement}
 use Rattle.text.proofs.line.put_actions.Tie as tie
 
 put-if-requires : tie.Need-put-if-requires
-put-if-requires c κs = first-room _ (first-room _ (first-room _ (first-room _ (first-room _ (first-room _ (places-room _ (c .before .before .before .pre)))))))
+put-if-requires c κs =
+    let start = c .before .before .before in
+    first-room _ (first-room _ (first-room _ (first-room _ (first-room _ (first-room _ (places-room _ (start .pre)))))))
 
 put-if-requires-2 : tie.Need-put-if-requires-2
 put-if-requires-2 c κs =
-    let start = c .before .before .before .before .before .before .before in
+    let stored = c .before .before .before in
+    let start = stored .before .before .before .before in
     let h : length (start .args .out .now) ≤ most = omega (arith, start .good) in
-    next-room h (first-room _ (first-room _ (first-room _ (first-room _ (first-room _ (places-room _ (start .pre))))))) (c .before .before .before .put-if .ensures)
+    next-room h (first-room _ (first-room _ (first-room _ (first-room _ (first-room _ (places-room _ (start .pre))))))) (stored .put-if .ensures)
 
 put-coupling-requires : tie.Need-put-coupling-requires
 put-coupling-requires c κs =
-    let start = c .before .before .before .before .before .before .before .before .before .before .before in
+    let scene = c .before .before .before in
+    let stored = scene .before .before .before .before in
+    let start = stored .before .before .before .before in
     let h : length (start .args .out .now) ≤ most = omega (arith, start .good) in
-    next-room h (first-room _ (first-room _ (first-room _ (first-room _ (places-room _ (start .pre)))))) (then h (c .before .before .before .before .before .before .before .put-if .ensures) (c .before .before .before .put-if2 .ensures))
+    next-room h (first-room _ (first-room _ (first-room _ (first-room _ (places-room _ (start .pre)))))) (then h (stored .put-if .ensures) (scene .put-if2 .ensures))
 
 put-if-requires-3 : tie.Need-put-if-requires-3
 put-if-requires-3 c κs =
-    let start = c .before .before .before .before .before .before .before .before .before .before .before .before .before .before .before in
+    let coupled = c .before .before .before in
+    let scene = coupled .before .before .before .before in
+    let stored = scene .before .before .before .before in
+    let start = stored .before .before .before .before in
     let h : length (start .args .out .now) ≤ most = omega (arith, start .good) in
-    next-room h (first-room _ (first-room _ (first-room _ (places-room _ (start .pre))))) (then h (then h (c .before .before .before .before .before .before .before .before .before .before .before .put-if .ensures) (c .before .before .before .before .before .before .before .put-if2 .ensures)) (c .before .before .before .put-coupling .ensures))
+    next-room h (first-room _ (first-room _ (first-room _ (places-room _ (start .pre))))) (then h (then h (stored .put-if .ensures) (scene .put-if2 .ensures)) (coupled .put-coupling .ensures))
 
 put-if-requires-4 : tie.Need-put-if-requires-4
 put-if-requires-4 c κs =
-    let start = c .before .before .before .before .before .before .before .before .before .before .before .before .before .before .before .before .before .before .before in
+    let level = c .before .before .before in
+    let coupled = level .before .before .before .before in
+    let scene = coupled .before .before .before .before in
+    let stored = scene .before .before .before .before in
+    let start = stored .before .before .before .before in
     let h : length (start .args .out .now) ≤ most = omega (arith, start .good) in
-    next-room h (first-room _ (first-room _ (places-room _ (start .pre)))) (then h (then h (then h (c .before .before .before .before .before .before .before .before .before .before .before .before .before .before .before .put-if .ensures) (c .before .before .before .before .before .before .before .before .before .before .before .put-if2 .ensures)) (c .before .before .before .before .before .before .before .put-coupling .ensures)) (c .before .before .before .put-if3 .ensures))
+    next-room h (first-room _ (first-room _ (places-room _ (start .pre)))) (then h (then h (then h (stored .put-if .ensures) (scene .put-if2 .ensures)) (coupled .put-coupling .ensures)) (level .put-if3 .ensures))
 
 put-then-requires : tie.Need-put-then-requires
 put-then-requires c κs =
-    let start = c .before .before .before .before .before .before .before .before .before .before .before .before .before .before .before .before .before .before .before .before .before .before .before in
+    let time = c .before .before .before in
+    let level = time .before .before .before .before in
+    let coupled = level .before .before .before .before in
+    let scene = coupled .before .before .before .before in
+    let stored = scene .before .before .before .before in
+    let start = stored .before .before .before .before in
     let h : length (start .args .out .now) ≤ most = omega (arith, start .good) in
-    next-room h (first-room _ (places-room _ (start .pre))) (then h (then h (then h (then h (c .before .before .before .before .before .before .before .before .before .before .before .before .before .before .before .before .before .before .before .put-if .ensures) (c .before .before .before .before .before .before .before .before .before .before .before .before .before .before .before .put-if2 .ensures)) (c .before .before .before .before .before .before .before .before .before .before .before .put-coupling .ensures)) (c .before .before .before .before .before .before .before .put-if3 .ensures)) (c .before .before .before .put-if4 .ensures))
+    next-room h (first-room _ (places-room _ (start .pre))) (then h (then h (then h (then h (stored .put-if .ensures) (scene .put-if2 .ensures)) (coupled .put-coupling .ensures)) (level .put-if3 .ensures)) (time .put-if4 .ensures))
 
 put-last-requires : tie.Need-put-last-requires
 put-last-requires c κs =
-    let start = c .before .before .before .before .before .before .before .before .before .before .before .before .before .before .before .before .before .before .before .before .before .before .before .before .before .before .before in
+    let also = c .before .before .before in
+    let time = also .before .before .before .before in
+    let level = time .before .before .before .before in
+    let coupled = level .before .before .before .before in
+    let scene = coupled .before .before .before .before in
+    let stored = scene .before .before .before .before in
+    let start = stored .before .before .before .before in
     let h : length (start .args .out .now) ≤ most = omega (arith, start .good) in
-    next-room h (places-room _ (start .pre)) (then h (then h (then h (then h (then h (c .before .before .before .before .before .before .before .before .before .before .before .before .before .before .before .before .before .before .before .before .before .before .before .put-if .ensures) (c .before .before .before .before .before .before .before .before .before .before .before .before .before .before .before .before .before .before .before .put-if2 .ensures)) (c .before .before .before .before .before .before .before .before .before .before .before .before .before .before .before .put-coupling .ensures)) (c .before .before .before .before .before .before .before .before .before .before .before .put-if3 .ensures)) (c .before .before .before .before .before .before .before .put-if4 .ensures)) (c .before .before .before .put-then .ensures))
+    next-room h (places-room _ (start .pre)) (then h (then h (then h (then h (then h (stored .put-if .ensures) (scene .put-if2 .ensures)) (coupled .put-coupling .ensures)) (level .put-if3 .ensures)) (time .put-if4 .ensures)) (also .put-then .ensures))
 
 returns : tie.Need-returns
 returns c =
-    let start = c .before .before .before .before .before .before .before .before .before .before .before .before .before .before .before .before .before .before .before .before .before .before .before .before .before .before .before .before .before .before in
+    let last = c .before .before in
+    let also = last .before .before .before .before in
+    let time = also .before .before .before .before in
+    let level = time .before .before .before .before in
+    let coupled = level .before .before .before .before in
+    let scene = coupled .before .before .before .before in
+    let stored = scene .before .before .before .before in
+    let start = stored .before .before .before .before in
     let h : length (start .args .out .now) ≤ most = omega (arith, start .good) in
-    places-wrote _ (then h (then h (then h (then h (then h (then h (c .before .before .before .before .before .before .before .before .before .before .before .before .before .before .before .before .before .before .before .before .before .before .before .before .before .before .put-if .ensures) (c .before .before .before .before .before .before .before .before .before .before .before .before .before .before .before .before .before .before .before .before .before .before .put-if2 .ensures)) (c .before .before .before .before .before .before .before .before .before .before .before .before .before .before .before .before .before .before .put-coupling .ensures)) (c .before .before .before .before .before .before .before .before .before .before .before .before .before .before .put-if3 .ensures)) (c .before .before .before .before .before .before .before .before .before .before .put-if4 .ensures)) (c .before .before .before .before .before .before .put-then .ensures)) (c .before .before .put-last .ensures))
+    places-wrote _ (then h (then h (then h (then h (then h (then h (stored .put-if .ensures) (scene .put-if2 .ensures)) (coupled .put-coupling .ensures)) (level .put-if3 .ensures)) (time .put-if4 .ensures)) (also .put-then .ensures)) (last .put-last .ensures))
 
 pub put-actions-spec : {M : Type 1} → statement M
 put-actions-spec =

@@ -1,6 +1,6 @@
 use native.Mathlib.Omega.{arith}
 use borrow.Author.Needs.{needs}
-use Rattle.text.proofs.WriteLaws.{then, first-room, next-room}
+use Rattle.text.proofs.WriteLaws.{then}
 use Rattle.text.proofs.line.put_letter.Statement.{statement}
 use Rattle.text.proofs.line.put_letter.Tie as tie
 

@@ -1,4 +1,3 @@
-use native.Mathlib.Omega.{arith}
 use borrow.Author.Needs.{needs}
 use Rattle.text.specs.Line.{levelText}
 use Rattle.text.proofs.line.put_level.Statement.{statement}

@@ -1,4 +1,3 @@
-use native.Mathlib.Omega.{arith}
 use borrow.Author.Needs.{needs}
 use Rattle.text.proofs.line.put_number.Statement.{statement}
 use Rattle.text.proofs.line.put_number.Tie as tie
