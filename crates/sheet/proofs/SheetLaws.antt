@@ -1,4 +1,4 @@
--- Laws of the sheet: one event more, a line made apart, and a text that fits. Assumes nothing.
+-- Laws of the sheet: one event more, a part of the output that was lent, and a text that fits. Assumes nothing.
 use Prim.Native.Nat.{ℕ, suc, _+_, _-_, _<_, _≤_, min}
 use mathlib.Core.Path.{_≡_, refl, sym, ap, _∙_}
 use mathlib.Core.List.{List, [], _∷_, _++_, append-assoc}

@@ -67,7 +67,7 @@ pub fn fit(events: &[u8], start: LevelControlState, out: &mut [u8]) -> Played
     }
 }
 
-// All of the room where it holds so many of the longest lines, else none.
+// All of the room where that many lines fit in it at 189 bytes each, else none.
 fn sure_room(lines: usize, end: usize) -> usize
     ensures { λ r. ⌜ (r ≤ end) × (0 < r → (r ≡ end) × (189 * lines ≤ end)) ⌝ }
 {
@@ -77,7 +77,7 @@ fn sure_room(lines: usize, end: usize) -> usize
     0
 }
 
-// Writes the lines where all of them have room, and gives the position past them.
+// Gives the position past all lines, and writes them where all of them have room; where not, out may hold some of them.
 fn put_each(events: &[u8], start: LevelControlState, out: &mut [u8]) -> usize
     ensures { λ r. ⌜ r ≡ min (length (textOf start (now (events .entry)))) most ⌝ }
     ensures { λ r. ⌜ (Room (now (out .entry)) 0 (textOf start (now (events .entry))) → Wrote (now (out .entry)) 0 (textOf start (now (events .entry))) (now (out .exit)) r) ⌝ }

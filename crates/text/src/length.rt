@@ -14,6 +14,7 @@ ghost use Rattle.transitions.specs.Events.{actCoupled};
 ghost use Rattle.text.specs.Text.{digits};
 ghost use Rattle.text.specs.Line.{actionsText, levelText, lineOf, numbersText};
 
+// The bytes that `put_line` writes of the same parts.
 pub fn line_length(
     index: u64,
     number: u8,

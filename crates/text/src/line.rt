@@ -1,5 +1,5 @@
 // A line of the sheet (document 01, "The sheet, whole"): index, number, level or `-`, remaining tenths, actions,
-// single spaces between, a line feed after. A line is written whole or not at all, so that no byte of it asks whether it fits.
+// single spaces between, a line feed after. A line is written whole or not at all, so that its bytes need not ask whether they fit.
 use crate::length::line_length;
 use crate::put_decimal;
 use transitions::action_list::Actions;
@@ -42,7 +42,7 @@ pub fn put_line(
     put_byte(out, feed_at, b'\n')
 }
 
-// The length of a line that does not fit from a place on, or 0. It is measured only where the longest, 189 bytes, might not fit.
+// The length of a line that does not fit from a place on, or 0. It is measured only where there are less than 189 bytes, which no line exceeds.
 fn length_if_too_long(
     end: usize,
     at: usize,
