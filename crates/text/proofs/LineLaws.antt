@@ -71,6 +71,10 @@ if-length : (test : Bool) (letter : ℕ) → length (cond test (wordText letter)
 if-length true letter = refl
 if-length false letter = refl
 
+pub if-room : (test : Bool) (letter : ℕ) {old : List ℕ} {at : ℕ} → Room old at (cond test (wordText letter) []) → at + cond test 2 0 ≤ length old
+if-room true letter room = omega (arith, room .fits)
+if-room false letter room = omega (arith, room .fits)
+
 pub places-length : (a : Actions) → length (actionsText (actionsOf a))
     ≡ cond (a .reports .stored) 2 0
     + cond (a .reports .scene) 2 0

@@ -69,6 +69,14 @@ next-room {old} {at} {a} {b} {mid} h room w =
     let same : length mid ≡ length old = rw (w .bytes) (length-sets old at a) in
     record { fits = omega (arith, rw (length-append a b) at (room .fits), same, w .next) }
 
+-- in numbers, for one byte and for two
+
+pub byte-room : {old : List ℕ} {at b : ℕ} → Room old at (b ∷ []) → at < length old
+byte-room room = omega (arith, room .fits)
+
+pub letter-room : {old : List ℕ} {at a b : ℕ} → Room old at (a ∷ b ∷ []) → at + 2 ≤ length old
+letter-room room = omega (arith, room .fits)
+
 -- what is measured of a text that does not fit: its length, or 0
 
 pub measures-0 : (at n end : ℕ) → at + n ≤ end → 0 ≡ cond (leb (at + n) end) 0 n

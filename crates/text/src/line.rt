@@ -135,7 +135,7 @@ fn put_level(out: &mut [u8], at: usize, level: Level) -> usize
 
 // A letter that stands alone, where it is called for.
 fn put_if(out: &mut [u8], at: usize, test: bool, letter: u8) -> usize
-    requires { ⌜ Room (now out) at (cond test (wordText letter) []) ⌝ }
+    requires { ⌜ at + cond test 2 0 ≤ length (now out) ⌝ }
     ensures { λ r. ⌜ Wrote (now (out .entry)) at (cond test (wordText letter) []) (now (out .exit)) r ⌝ }
 {
     if test {
@@ -210,7 +210,7 @@ fn put_w(out: &mut [u8], at: usize, until: u64) -> usize
 
 // A space and a letter.
 fn put_letter(out: &mut [u8], at: usize, letter: u8) -> usize
-    requires { ⌜ Room (now out) at (wordText letter) ⌝ }
+    requires { ⌜ at + 2 ≤ length (now out) ⌝ }
     ensures { λ r. ⌜ Wrote (now (out .entry)) at (wordText letter) (now (out .exit)) r ⌝ }
 {
     let letter_at = put_byte(out, at, b' ');
@@ -290,7 +290,7 @@ fn put_three(out: &mut [u8], at: usize, x: u64) -> usize
 
 // One byte, where it is known to fit.
 fn put_byte(out: &mut [u8], at: usize, b: u8) -> usize
-    requires { ⌜ Room (now out) at (b ∷ []) ⌝ }
+    requires { ⌜ at < length (now out) ⌝ }
     ensures { λ r. ⌜ Wrote (now (out .entry)) at (b ∷ []) (now (out .exit)) r ⌝ }
 {
     out[at] = b;

@@ -3,7 +3,9 @@ use native.Mathlib.Omega.{arith}
 use borrow.Author.Needs.{needs}
 use lib.ListN.{length}
 use Rattle.text.specs.Text.{most}
-use Rattle.text.proofs.LineLaws.{places-room, places-wrote}
+use Rattle.transitions.specs.declared.events.ActionKind.the-variants.{P, S, L, R}
+use Rattle.text.specs.Line.{letterOf}
+use Rattle.text.proofs.LineLaws.{if-room, places-room, places-wrote}
 use Rattle.text.proofs.WriteLaws.{then, first-room, next-room}
 use Rattle.text.proofs.line.put_actions.Statement.{statement}
 use Rattle.text.proofs.line.put_actions.Tie as tie
@@ -11,14 +13,14 @@ use Rattle.text.proofs.line.put_actions.Tie as tie
 put-if-requires : tie.Need-put-if-requires
 put-if-requires c κs =
     let start = c .before .before .before in
-    first-room _ (first-room _ (first-room _ (first-room _ (first-room _ (first-room _ (places-room _ (start .pre)))))))
+    if-room (start .args .actions .reports .stored) (letterOf P) (first-room _ (first-room _ (first-room _ (first-room _ (first-room _ (first-room _ (places-room _ (start .pre))))))))
 
 put-if-requires-2 : tie.Need-put-if-requires-2
 put-if-requires-2 c κs =
     let stored = c .before .before .before in
     let start = stored .before .before .before .before in
     let h : length (start .args .out .now) ≤ most = omega (arith, start .good) in
-    next-room h (first-room _ (first-room _ (first-room _ (first-room _ (first-room _ (places-room _ (start .pre))))))) (stored .put-if .ensures)
+    if-room (start .args .actions .reports .scene) (letterOf S) (next-room h (first-room _ (first-room _ (first-room _ (first-room _ (first-room _ (places-room _ (start .pre))))))) (stored .put-if .ensures))
 
 put-coupling-requires : tie.Need-put-coupling-requires
 put-coupling-requires c κs =
@@ -35,7 +37,7 @@ put-if-requires-3 c κs =
     let stored = scene .before .before .before .before in
     let start = stored .before .before .before .before in
     let h : length (start .args .out .now) ≤ most = omega (arith, start .good) in
-    next-room h (first-room _ (first-room _ (first-room _ (places-room _ (start .pre))))) (then h (then h (stored .put-if .ensures) (scene .put-if2 .ensures)) (coupled .put-coupling .ensures))
+    if-room (start .args .actions .reports .level) (letterOf L) (next-room h (first-room _ (first-room _ (first-room _ (places-room _ (start .pre))))) (then h (then h (stored .put-if .ensures) (scene .put-if2 .ensures)) (coupled .put-coupling .ensures)))
 
 put-if-requires-4 : tie.Need-put-if-requires-4
 put-if-requires-4 c κs =
@@ -45,7 +47,7 @@ put-if-requires-4 c κs =
     let stored = scene .before .before .before .before in
     let start = stored .before .before .before .before in
     let h : length (start .args .out .now) ≤ most = omega (arith, start .good) in
-    next-room h (first-room _ (first-room _ (places-room _ (start .pre)))) (then h (then h (then h (stored .put-if .ensures) (scene .put-if2 .ensures)) (coupled .put-coupling .ensures)) (level .put-if3 .ensures))
+    if-room (start .args .actions .reports .time) (letterOf R) (next-room h (first-room _ (first-room _ (places-room _ (start .pre)))) (then h (then h (then h (stored .put-if .ensures) (scene .put-if2 .ensures)) (coupled .put-coupling .ensures)) (level .put-if3 .ensures)))
 
 put-then-requires : tie.Need-put-then-requires
 put-then-requires c κs =

@@ -2,7 +2,7 @@ use mathlib.Core.List.{append-nil}
 use native.Mathlib.Omega.{arith}
 use borrow.Author.Needs.{needs}
 use Rattle.text.specs.Line.{actionText, actionsText}
-use Rattle.text.proofs.WriteLaws.{none-wrote}
+use Rattle.text.proofs.WriteLaws.{none-wrote, letter-room}
 use Rattle.text.proofs.line.put_last.Statement.{statement}
 use Rattle.text.proofs.line.put_last.Tie as tie
 
@@ -12,7 +12,7 @@ put-valued-requires c κs = rw (c .before .before .last .given .1, append-nil) a
 
 put-letter-requires : tie.Need-put-letter-requires
 unfolding actionsText actionText
-put-letter-requires c κs = rw (c .before .enum-told2 .given .1) at (c .before .before .before .before .pre)
+put-letter-requires c κs = letter-room (rw (c .before .enum-told2 .given .1) at (c .before .before .before .before .pre))
 
 put-w-requires : tie.Need-put-w-requires
 put-w-requires c κs = rw (c .before .before .last2 .given .1) at (c .before .before .before .before .before .pre)
@@ -23,11 +23,11 @@ put-valued-requires-2 c κs = rw (c .before .before .last3 .given .1, append-nil
 
 put-letter-requires-2 : tie.Need-put-letter-requires-2
 unfolding actionsText actionText
-put-letter-requires-2 c κs = rw (c .before .enum-told3 .given .1) at (c .before .before .before .before .pre)
+put-letter-requires-2 c κs = letter-room (rw (c .before .enum-told3 .given .1) at (c .before .before .before .before .pre))
 
 put-letter-requires-3 : tie.Need-put-letter-requires-3
 unfolding actionsText actionText
-put-letter-requires-3 c κs = rw (c .before .enum-told4 .given .1) at (c .before .before .before .before .pre)
+put-letter-requires-3 c κs = letter-room (rw (c .before .enum-told4 .given .1) at (c .before .before .before .before .pre))
 
 returns : tie.Need-returns
 unfolding actionsText

@@ -1,3 +1,4 @@
+use native.Mathlib.Omega.{arith}
 use borrow.Author.Needs.{needs}
 use Rattle.text.specs.Line.{levelText}
 use Rattle.text.proofs.line.put_level.Statement.{statement}
@@ -9,7 +10,7 @@ put-eight-bits-requires c κs = rw (c .before .before .level .given .1) at (c .b
 
 put-byte-requires : tie.Need-put-byte-requires
 unfolding levelText
-put-byte-requires c κs = rw (c .before .enum-told .given .1) at (c .before .before .before .before .pre)
+put-byte-requires c κs = omega (arith, (rw (c .before .enum-told .given .1) at (c .before .before .before .before .pre)) .fits)
 
 returns : tie.Need-returns
 unfolding levelText

@@ -1,3 +1,4 @@
+use Prim.Native.Char.{code}
 use Prim.Native.Nat.{ℕ, _≤_}
 use mathlib.Core.List.{List}
 use native.Mathlib.Omega.{arith}
@@ -7,7 +8,7 @@ use Rattle.transitions.specs.ActionList.{actionsOf}
 use Rattle.text.specs.Line.{lineOf}
 use Rattle.text.specs.Text.{Room, most}
 use Rattle.text.proofs.LineLaws.{line-at-most, line-some}
-use Rattle.text.proofs.WriteLaws.{then, first-room, next-room, put-whole, not-put, measured-room, measured-full}
+use Rattle.text.proofs.WriteLaws.{then, first-room, next-room, byte-room, put-whole, not-put, measured-room, measured-full}
 use Rattle.text.proofs.line.put_line.Statement.{statement}
 use Rattle.text.proofs.line.put_line.Tie as tie
 
@@ -42,7 +43,7 @@ unfolding lineOf
 put-byte-requires c κs =
     let start = c .before .before .before .before .before .before .before .before .before .before .before .before in
     let h : length (start .args .out .now) ≤ most = omega (arith, start .good) in
-    next-room h (fits (c .before .before .before .before .before .before .before .before .before)) (then h (c .before .before .before .before .before .before .before .put-numbers .ensures) (c .before .before .before .put-actions .ensures))
+    byte-room {b = code "\n"} (next-room h (fits (c .before .before .before .before .before .before .before .before .before)) (then h (c .before .before .before .before .before .before .before .put-numbers .ensures) (c .before .before .before .put-actions .ensures)))
 
 returns-2 : tie.Need-returns-2
 unfolding lineOf

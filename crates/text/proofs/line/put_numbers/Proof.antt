@@ -1,9 +1,10 @@
+use Prim.Native.Char.{code}
 use Prim.Native.Nat.{_≤_}
 use native.Mathlib.Omega.{arith}
 use borrow.Author.Needs.{needs}
 use lib.ListN.{length}
 use Rattle.text.specs.Text.{most}
-use Rattle.text.proofs.WriteLaws.{then, first-room, next-room}
+use Rattle.text.proofs.WriteLaws.{then, first-room, next-room, byte-room}
 use Rattle.text.proofs.line.put_numbers.Statement.{statement}
 use Rattle.text.proofs.line.put_numbers.Tie as tie
 
@@ -17,7 +18,7 @@ put-byte-requires c κs =
     let index = c .before .before .before in
     let start = index .before .before .before in
     let h : length (start .args .out .now) ≤ most = omega (arith, start .good) in
-    next-room h (first-room _ (first-room _ (first-room _ (first-room _ (first-room _ (start .pre)))))) (index .put-number .ensures)
+    byte-room {b = code " "} (next-room h (first-room _ (first-room _ (first-room _ (first-room _ (first-room _ (start .pre)))))) (index .put-number .ensures))
 
 put-eight-bits-requires : tie.Need-put-eight-bits-requires
 put-eight-bits-requires c κs =
@@ -34,7 +35,7 @@ put-byte-requires-2 c κs =
     let index = space .before .before .before .before in
     let start = index .before .before .before in
     let h : length (start .args .out .now) ≤ most = omega (arith, start .good) in
-    next-room h (first-room _ (first-room _ (first-room _ (start .pre)))) (then h (then h (index .put-number .ensures) (space .put-byte .ensures)) (number .put-eight-bits .ensures))
+    byte-room {b = code " "} (next-room h (first-room _ (first-room _ (first-room _ (start .pre)))) (then h (then h (index .put-number .ensures) (space .put-byte .ensures)) (number .put-eight-bits .ensures)))
 
 put-level-requires : tie.Need-put-level-requires
 put-level-requires c κs =
@@ -55,7 +56,7 @@ put-byte-requires-3 c κs =
     let index = space .before .before .before .before in
     let start = index .before .before .before in
     let h : length (start .args .out .now) ≤ most = omega (arith, start .good) in
-    next-room h (first-room _ (start .pre)) (then h (then h (then h (then h (index .put-number .ensures) (space .put-byte .ensures)) (number .put-eight-bits .ensures)) (space2 .put-byte2 .ensures)) (level .put-level .ensures))
+    byte-room {b = code " "} (next-room h (first-room _ (start .pre)) (then h (then h (then h (then h (index .put-number .ensures) (space .put-byte .ensures)) (number .put-eight-bits .ensures)) (space2 .put-byte2 .ensures)) (level .put-level .ensures)))
 
 put-number-requires-2 : tie.Need-put-number-requires-2
 put-number-requires-2 c κs =

@@ -1,13 +1,13 @@
 use native.Mathlib.Omega.{arith}
 use borrow.Author.Needs.{needs}
 use Rattle.text.specs.Line.{actionText, actionsText}
-use Rattle.text.proofs.WriteLaws.{none-wrote}
+use Rattle.text.proofs.WriteLaws.{none-wrote, letter-room}
 use Rattle.text.proofs.line.put_then.Statement.{statement}
 use Rattle.text.proofs.line.put_then.Tie as tie
 
 put-letter-requires : tie.Need-put-letter-requires
 unfolding actionsText actionText
-put-letter-requires c κs = rw (c .before .enum-told2 .given .1) at (c .before .before .before .before .pre)
+put-letter-requires c κs = letter-room (rw (c .before .enum-told2 .given .1) at (c .before .before .before .before .pre))
 
 put-c-requires : tie.Need-put-c-requires
 put-c-requires c κs = rw (c .before .before .then .given .1) at (c .before .before .before .before .before .pre)

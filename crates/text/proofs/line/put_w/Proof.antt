@@ -1,14 +1,15 @@
 use mathlib.Core.List.{append-nil}
 use native.Mathlib.Omega.{arith}
 use borrow.Author.Needs.{needs}
-use Rattle.text.specs.Line.{actionText, actionsText}
-use Rattle.text.proofs.WriteLaws.{then, first-room, next-room}
+use Rattle.transitions.specs.declared.events.ActionKind.the-variants.{W}
+use Rattle.text.specs.Line.{actionText, actionsText, letterOf, wordText}
+use Rattle.text.proofs.WriteLaws.{then, first-room, next-room, letter-room}
 use Rattle.text.proofs.line.put_w.Statement.{statement}
 use Rattle.text.proofs.line.put_w.Tie as tie
 
 put-letter-requires : tie.Need-put-letter-requires
 unfolding actionsText actionText
-put-letter-requires c κs = first-room _ (rw append-nil at (c .before .before .pre))
+put-letter-requires c κs = letter-room (first-room {a = wordText (letterOf W)} _ (rw append-nil at (c .before .before .pre)))
 
 put-time-requires : tie.Need-put-time-requires
 unfolding actionsText actionText
