@@ -2,10 +2,11 @@
 use Prim.Native.Nat.{ℕ, suc, _+_, _-_, _<_, _≤_, min}
 use mathlib.Core.Path.{_≡_, refl, sym, ap, _∙_}
 use mathlib.Core.List.{List, [], _∷_, _++_, append-assoc}
-use mathlib.Core.Bool.{true, false}
+use mathlib.Core.Bool.{true, false, cond}
 use native.Mathlib.Omega.{arith}
 use native.Mathlib.Nat.{zero-add}
 use borrow.Author.Tests.{lt-ltb, le-ltb, le-leb, lt-leb}
+use lib.Dec.{leb}
 use lib.ListN.{length, take, drop, length-append, length-drop, take-append-drop}
 use lib.Seq.{drop-append-le, drop-drop, length-take-le, sets, sets-eq, take-length}
 use Rattle.text.specs.Text.{Room, Wrote, most, putWhole}
@@ -53,6 +54,13 @@ module _ (line rest out : List ℕ) (at : ℕ) {mid : List ℕ} {q : ℕ} (put :
   -- where both have room, the line was written
   pub turn-wrote : {new : List ℕ} {r : ℕ} → length out ≤ most → Room out at (line ++ rest) → Wrote mid q rest new r → Wrote out at (line ++ rest) new r
   turn-wrote o room w = then o (whole-wrote out at line (first-room rest room) put) w
+
+-- room is given whole, where it is enough, or not at all
+pub all-or-none : (need end : ℕ) {room : ℕ} → room ≡ cond (leb need end) end 0 → (room ≤ end) × (0 < room → (room ≡ end) × (need ≤ end))
+all-or-none need end g =
+    by-test end need
+    (λ less. let none = rw (lt-leb need end less) at g in (omega (arith, none), λ some. absurd (omega (arith, none, some))))
+    (λ enough. let all = rw (le-leb need end enough) at g in (omega (arith, all), λ some. (all, enough)))
 
 -- what a record gives, as the loop has it
 pub record-played : (s : LevelControlState) (from : ℕ) (events : List ℕ) (e : Effect) → outcomeOf e ≡ recordOutcome s (take (from + 20 - from) (drop from events))

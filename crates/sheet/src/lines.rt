@@ -5,7 +5,9 @@ use records::events::EventRead;
 use records::events::read_event;
 use text::line::put_line;
 ghost use mathlib.Core.Path.{_≡_};
-ghost use Prim.Native.Nat.{_+_, _*_, _/_, _<_, _≤_, min};
+ghost use mathlib.Core.Bool.{cond};
+ghost use Prim.Native.Nat.{_+_, _*_, _/_, _≤_, min};
+ghost use lib.Dec.{leb};
 ghost use lib.ListN.{length};
 ghost use Rattle.text.specs.Text.{Room, Wrote, most, putWhole};
 ghost use Rattle.level_control.specs.Answer.{outcomeOf};
@@ -69,7 +71,7 @@ pub fn fit(events: &[u8], start: LevelControlState, out: &mut [u8]) -> Played
 
 // All of the room where that many lines fit in it at 189 bytes each, else none.
 fn sure_room(lines: usize, end: usize) -> usize
-    ensures { λ r. ⌜ (r ≤ end) × (0 < r → (r ≡ end) × (189 * lines ≤ end)) ⌝ }
+    ensures { λ r. ⌜ r ≡ cond (leb (189 * lines) end) end 0 ⌝ }
 {
     if lines <= end / 189 {
         return end;

@@ -8,7 +8,7 @@ use Rattle.text.specs.Text.{most}
 use Rattle.text.proofs.WriteLaws.{by-test}
 use Rattle.sheet.specs.Lines.{textOf}
 use Rattle.sheet.specs.Play.{fitted}
-use Rattle.sheet.proofs.SheetLaws.{fit-yes, fit-no, length-back, none-back}
+use Rattle.sheet.proofs.SheetLaws.{all-or-none, fit-yes, fit-no, length-back, none-back}
 use Rattle.sheet.proofs.lines.fit.Statement.{statement}
 use Rattle.sheet.proofs.lines.fit.Tie as tie
 
@@ -22,7 +22,8 @@ abbrev μ-loop : tie.MeasureT-loop
 
 loop-holds : tie.Need-loop-holds Inv-loop μ-loop
 loop-holds c =
-    let given = c .sure-room .ensures in
+    let start = c .before .before .before in
+    let given = all-or-none (189 * (length (start .args .events .now) / 20)) (length (start .args .out .now)) (c .sure-room .ensures) in
     (refl, omega (arith, given .0), λ some. (omega (arith, given .1 some), omega (arith, given .1 some)))
 
 slice-aggregate-put-each : tie.Need-slice-aggregate-put-each Inv-loop μ-loop
