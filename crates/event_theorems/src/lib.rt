@@ -1,5 +1,7 @@
 // What every event gives in every state, said a second time: not event by event, as the machine has it, but cause by cause, field by field and
 // letter by letter. There is nothing to run.
+#![tactic(auto)]
+
 ghost use Rattle.event_theorems.specs.ByField.{ByField};
 
 // A refused event has the number of the first cause that meets it and changes nothing; one that the options stop changes nothing but the last

@@ -1,6 +1,8 @@
 // The source's handler: a state, and a method for each event, under the source's name where it has one. Each gives the next state within its answer, and
 // refuses as `event` does: nothing has to be vetted first.
 // Derived from level_control.rs of project-chip/rs-matter 43f61585a4 (see NOTICE), and changed.
+#![tactic(auto)]
+
 ghost use Rattle.std.specs.Prelude.{◌≡◌};
 ghost use Rattle.transitions.specs.Events.{event as eventAt};
 ghost use Rattle.transitions.specs.Scene.{scene_of};
@@ -18,7 +20,7 @@ use transitions::scene::scene_level;
 use transitions::types::{Level, Rate};
 use units::{Micros, Millis};
 
-#[derive(Drop)]
+#[derive(Clone, Copy)]
 pub struct LevelControlHandler {
     pub state: LevelControlState,
 }

@@ -1,4 +1,6 @@
 // Reads records from standard input and prints the sheet, or `0 `, the number of the refusal and a line feed.
+#![tactic(auto)]
+
 use libc::{STDIN_FILENO, STDOUT_FILENO};
 use sheet::key::key_sheet;
 use text::front;

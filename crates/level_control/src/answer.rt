@@ -10,7 +10,7 @@ use transitions::action_list::{Actions, Last, Reports, Then};
 use transitions::events::Action;
 
 // The actions as an array with their number. The slots from `count` on hold X with value 0.
-#[derive(Drop)]
+#[derive(Clone, Copy)]
 pub struct Answer {
     pub number: u8,
     pub state: LevelControlState,
@@ -20,7 +20,7 @@ pub struct Answer {
 
 // The actions by their places. An array would have to be copied with the state at every step on the way.
 // The fields stand in the order that runs fastest, not by meaning (docs/DECISIONS.md).
-#[derive(Drop)]
+#[derive(Clone, Copy)]
 pub struct Effect {
     pub actions: Actions,
     pub number: u8,

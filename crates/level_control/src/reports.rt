@@ -20,14 +20,14 @@ use transitions::types::{Level, OptionsBitmap};
 use units::{Micros, Millis};
 
 // A state, and whether the attribute that was written in it is to be reported.
-#[derive(Drop)]
+#[derive(Clone, Copy)]
 pub struct Reported {
     pub state: LevelControlState,
     pub due: bool,
 }
 
 // A state, and what is to be told of it.
-#[derive(Drop)]
+#[derive(Clone, Copy)]
 pub struct Told {
     pub state: LevelControlState,
     pub reports: Reports,

@@ -9,7 +9,7 @@ use transitions::types::Level;
 use units::{Micros, Tenths};
 
 // The fields stand in the order that runs fastest, not by meaning (docs/DECISIONS.md).
-#[derive(Drop)]
+#[derive(Clone, Copy)]
 pub struct LevelControlState {
     pub settings: Settings,
     pub attributes: Attributes,

@@ -1,5 +1,7 @@
 // The page of theorems about the machine, each held by a function's contract: there is nothing to run. What every event gives, field by field and letter by
 // letter, is `every_field_holds` of event_theorems.
+#![tactic(auto)]
+
 ghost use Rattle.level_theorems.specs.Demand1.{Demand1};
 ghost use Rattle.level_theorems.specs.FadeTheorems.{AnswersAccepted, ComesToRest, EveryFadeCovered, ExactKey, PathIs, ReactionsCovered, TaskAgrees, Uninterrupted, WaitsEnd, WakesAccepted};
 ghost use Rattle.level_theorems.specs.Instances.{Instances};

@@ -1,4 +1,6 @@
 // What the Matter document says of whole commands, and the machine: theorems, and nothing to run.
+#![tactic(auto)]
+
 ghost use Rattle.matter.specs.Agreement.{Agreement};
 ghost use Rattle.matter.specs.Parts.{Parts};
 

@@ -1,4 +1,6 @@
 // The demands over records of bytes, each theorem held by a function's contract: there is nothing to run.
+#![tactic(auto)]
+
 ghost use Rattle.record_theorems.specs.RecordInstance.{Instance};
 ghost use Rattle.record_theorems.specs.RecordTheorems.{AnswerRecordsAccepted, Demand1Recorded, EveryFadeRecorded, RecordedWaitsEnd, RecordsComeToRest, WakeRecordsAccepted};
 

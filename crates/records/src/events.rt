@@ -11,7 +11,7 @@ use transitions::events::{
 use transitions::types::OptionsBitmap;
 use units::{Micros, Millis};
 
-#[derive(Drop)]
+#[derive(Clone, Copy)]
 pub enum EventRead {
     Event(Event),
     RecordWrong,

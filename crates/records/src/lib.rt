@@ -1,4 +1,6 @@
 // Records of 20 bytes, low byte first, to settings and events (document 01, "Records").
+#![tactic(auto)]
+
 pub mod bytes;
 pub mod events;
 pub mod settings;

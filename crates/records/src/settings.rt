@@ -8,7 +8,7 @@ use transitions::settings::{Attributes, Settings};
 use transitions::types::OptionsBitmap;
 use units::Tenths;
 
-#[derive(Drop)]
+#[derive(Clone, Copy)]
 pub enum SettingsRead {
     Settings(Settings),
     RecordWrong,

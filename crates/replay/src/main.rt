@@ -1,5 +1,7 @@
 // Replays a list of plays (oracle/README.md, "A list of plays") from standard input and says how many of its sheets are ours.
 // With an argument it prints our sheets instead, each under a line `# play N`, and passes over those of the list; with two, the whole state after each line.
+#![tactic(auto)]
+
 mod states;
 
 use crate::states::print_states;
@@ -9,27 +11,27 @@ use sheet::key::key_sheet;
 use std::num::wrapping_add_u32;
 use text::front;
 
-#[derive(Drop)]
+#[derive(Clone, Copy)]
 pub enum Mode {
     Compare,
     Sheets,
     States,
 }
 
-#[derive(Drop)]
+#[derive(Clone, Copy)]
 pub enum Verdict {
     Agrees,
     Differs,
     Cut,
 }
 
-#[derive(Drop)]
+#[derive(Clone, Copy)]
 pub struct Play {
     pub verdict: Verdict,
     pub sum: u32,
 }
 
-#[derive(Drop)]
+#[derive(Clone, Copy)]
 pub struct Count {
     pub agree: u64,
     pub differ: u64,

@@ -1,4 +1,6 @@
 // The sheet of a play: records in, text out (document 01, "Records" and "The sheet, whole").
+#![tactic(auto)]
+
 pub mod key;
 pub mod lines;
 pub mod play;

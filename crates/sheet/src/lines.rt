@@ -11,7 +11,7 @@ use records::events::{EventRead, read_event};
 use text::line::put_line;
 
 // What a call is refused for; document 01's numbers 1, 2, 3, 4 and 16.
-#[derive(Drop)]
+#[derive(Clone, Copy)]
 pub enum Refusal {
     RecordWrong,
     MaxAbove254,
@@ -20,7 +20,7 @@ pub enum Refusal {
     TextTooLong,
 }
 
-#[derive(Drop)]
+#[derive(Clone, Copy)]
 pub enum Played {
     Text(usize),
     Refused(Refusal),

@@ -1,5 +1,7 @@
 // Text written into a lent slice. What does not fit is not written, and the position counts on, held at usize::MAX:
 // so the same function measures a text and writes it, and a position past the slice's end says that the text did not fit.
+#![tactic(auto)]
+
 pub mod length;
 pub mod line;
 

@@ -10,7 +10,7 @@ use crate::events::{Action, ActionKind};
 use units::Micros;
 
 // What is to be told of a state, in the order of the actions: P, S, C, L, R.
-#[derive(Drop)]
+#[derive(Clone, Copy)]
 pub struct Reports {
     pub stored: bool,
     pub scene: bool,
@@ -20,7 +20,7 @@ pub struct Reports {
 }
 
 // What may follow the reports: P where the level before is put back, C where a move couples or a target is reached.
-#[derive(Drop)]
+#[derive(Clone, Copy)]
 pub enum Then {
     Nothing,
     P,
@@ -28,7 +28,7 @@ pub enum Then {
 }
 
 // What an answer ends with.
-#[derive(Drop)]
+#[derive(Clone, Copy)]
 pub enum Last {
     Nothing,
     D(u8),
@@ -40,7 +40,7 @@ pub enum Last {
 }
 
 // The actions of an answer by their places: no answer has more than these seven.
-#[derive(Drop)]
+#[derive(Clone, Copy)]
 pub struct Actions {
     pub reports: Reports,
     pub then: Then,
@@ -48,7 +48,7 @@ pub struct Actions {
 }
 
 // The slots from `count` on hold X with value 0.
-#[derive(Drop)]
+#[derive(Clone, Copy)]
 pub struct ActionList {
     pub actions: [Action; 7],
     pub count: usize,

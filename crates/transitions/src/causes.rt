@@ -4,7 +4,7 @@ ghost use Rattle.std.specs.Prelude.{◌≡◌};
 ghost use Rattle.transitions.specs.Causes.{event_tests, first_cause, no_command_tests, no_turn_tests};
 
 // What the tests of a call say: of its settings, of a record, of the output.
-#[derive(Drop)]
+#[derive(Clone, Copy)]
 pub struct CallTests {
     pub record_wrong: bool,
     pub max_above_254: bool,
@@ -14,7 +14,7 @@ pub struct CallTests {
 }
 
 // What the tests say that ask whether an event's turn has come.
-#[derive(Drop)]
+#[derive(Clone, Copy)]
 pub struct TurnTests {
     pub time_refused: bool,
     pub answer_open: bool,
@@ -24,7 +24,7 @@ pub struct TurnTests {
 }
 
 // What the tests of a command's own values say. The options stop a command without refusing it.
-#[derive(Drop)]
+#[derive(Clone, Copy)]
 pub struct CommandTests {
     pub invalid_command: bool,
     pub stopped_by_options: bool,
@@ -34,7 +34,7 @@ pub struct CommandTests {
     pub rate_0: bool,
 }
 
-#[derive(Drop)]
+#[derive(Clone, Copy)]
 pub struct Tests {
     pub call: CallTests,
     pub turn: TurnTests,

@@ -7,14 +7,14 @@ use crate::types::{Mode, Rate, Time};
 use units::{Scaled, Tenths, numbers};
 
 // The time that a step takes, or that its product is too large.
-#[derive(Drop)]
+#[derive(Clone, Copy)]
 pub enum StepTime {
     Takes(Tenths),
     Overflow,
 }
 
 // The rate that a move goes by, or its refusal.
-#[derive(Drop)]
+#[derive(Clone, Copy)]
 pub enum MoveRate {
     Goes(u8),
     InvalidCommand,

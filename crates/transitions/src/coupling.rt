@@ -3,7 +3,7 @@
 ghost use Rattle.std.specs.Prelude.{◌≡◌};
 ghost use Rattle.transitions.specs.Coupling.{coupled_on_off};
 
-#[derive(Drop)]
+#[derive(Clone, Copy)]
 pub enum Coupling {
     Sent(bool),
     NotSent,

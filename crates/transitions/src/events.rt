@@ -5,7 +5,7 @@ use units::{Micros, Millis};
 
 // The fields of a request stand in the order that runs fastest, not by meaning (docs/DECISIONS.md).
 
-#[derive(Drop)]
+#[derive(Clone, Copy)]
 pub struct MoveToLevelRequest {
     pub with_on_off: bool,
     pub transition_time: Time,
@@ -14,7 +14,7 @@ pub struct MoveToLevelRequest {
     pub options_override: OptionsBitmap,
 }
 
-#[derive(Drop)]
+#[derive(Clone, Copy)]
 pub struct MoveRequest {
     pub with_on_off: bool,
     pub mode: Mode,
@@ -23,7 +23,7 @@ pub struct MoveRequest {
     pub options_override: OptionsBitmap,
 }
 
-#[derive(Drop)]
+#[derive(Clone, Copy)]
 pub struct StepRequest {
     pub with_on_off: bool,
     pub transition_time: Time,
@@ -33,7 +33,7 @@ pub struct StepRequest {
     pub options_override: OptionsBitmap,
 }
 
-#[derive(Drop)]
+#[derive(Clone, Copy)]
 pub struct StopRequest {
     pub with_on_off: bool,
     pub options_mask: OptionsBitmap,
@@ -41,21 +41,21 @@ pub struct StopRequest {
 }
 
 // What a scene recalls: the level that its pairs decide, or none.
-#[derive(Drop)]
+#[derive(Clone, Copy)]
 pub struct SceneRequest {
     pub transition_time: Millis,
     pub level: Level,
 }
 
 // What the device answers to a request.
-#[derive(Drop)]
+#[derive(Clone, Copy)]
 pub enum DeviceAnswer {
     Level(u8),
     Missing,
     Failed,
 }
 
-#[derive(Drop)]
+#[derive(Clone, Copy)]
 pub enum EventKind {
     StartUp,
     MoveToLevel(MoveToLevelRequest),
@@ -75,7 +75,7 @@ pub enum EventKind {
 }
 
 // An event carries its clock time and the on/off value of the coupled cluster.
-#[derive(Drop)]
+#[derive(Clone, Copy)]
 pub struct Event {
     pub at: Micros,
     pub on_off: bool,
@@ -83,7 +83,7 @@ pub struct Event {
 }
 
 // How an event takes its turn: three kinds have a rule of their own.
-#[derive(Drop)]
+#[derive(Clone, Copy)]
 pub enum Turn {
     StartUp,
     Answer,
@@ -92,7 +92,7 @@ pub enum Turn {
 }
 
 // The kinds of action, by their letters in document 01.
-#[derive(Drop)]
+#[derive(Clone, Copy)]
 pub enum ActionKind {
     D,
     P,
@@ -107,7 +107,7 @@ pub enum ActionKind {
 }
 
 // The value is the level of D, 0 or 1 of C, the time of W, the number of E, and 0 of the others.
-#[derive(Drop)]
+#[derive(Clone, Copy)]
 pub struct Action {
     pub kind: ActionKind,
     pub value: u64,

@@ -6,7 +6,7 @@ ghost use Rattle.transitions.specs.Fade.{fade_period, is_transition_start, next_
 use units::{Micros, Millis, Tenths};
 
 // After an answer: wait until a time, or ask at once.
-#[derive(Drop)]
+#[derive(Clone, Copy)]
 pub enum Next {
     Wait(Micros),
     Ask,

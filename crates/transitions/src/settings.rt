@@ -5,7 +5,7 @@ use crate::types::{Level, OptionsBitmap, Rate, Time};
 use units::Tenths;
 
 // The attributes: events set three of them, and a reset puts all back to what is configured.
-#[derive(Drop)]
+#[derive(Clone, Copy)]
 pub struct Attributes {
     pub options: OptionsBitmap,
     pub default_move_rate: Rate,
@@ -17,7 +17,7 @@ pub struct Attributes {
 }
 
 // What was configured: the source's associated constants of the hooks.
-#[derive(Drop)]
+#[derive(Clone, Copy)]
 pub struct Settings {
     pub fastest_rate: u8,
     pub attributes: Attributes,

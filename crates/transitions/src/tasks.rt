@@ -11,21 +11,21 @@ use crate::types::{Level, Mode};
 use units::{Micros, Millis, Tenths, numbers};
 
 // A request is open since a time, or the next one waits until a time.
-#[derive(Drop)]
+#[derive(Clone, Copy)]
 pub enum Phase {
     Asked { since: Micros },
     Waiting { until: Micros },
 }
 
 // What happens when a fade has ended: the off reaction puts the level before it back.
-#[derive(Drop)]
+#[derive(Clone, Copy)]
 pub enum AfterFade {
     Stay,
     Restore(u8),
 }
 
 // A fade to a target: the source's move_to_level_transition.
-#[derive(Drop)]
+#[derive(Clone, Copy)]
 pub struct Fade {
     pub with_on_off: bool,
     pub scene_apply: bool,
@@ -40,7 +40,7 @@ pub struct Fade {
 }
 
 // What a move command asks for.
-#[derive(Drop)]
+#[derive(Clone, Copy)]
 pub struct MoveCourse {
     pub period: Micros,
     pub with_on_off: bool,
@@ -48,7 +48,7 @@ pub struct MoveCourse {
 }
 
 // A move at a rate: the source's move_transition.
-#[derive(Drop)]
+#[derive(Clone, Copy)]
 pub struct Move {
     pub phase: Phase,
     pub asked: u8,
@@ -56,12 +56,12 @@ pub struct Move {
 }
 
 // The reaction to on, while its request for MIN is open. It keeps the level before.
-#[derive(Drop)]
+#[derive(Clone, Copy)]
 pub struct OnReaction {
     pub before: Level,
 }
 
-#[derive(Drop)]
+#[derive(Clone, Copy)]
 pub enum Task {
     Rest,
     StartUp,
@@ -71,7 +71,7 @@ pub enum Task {
 }
 
 // What is asked of a fade that is to begin.
-#[derive(Drop)]
+#[derive(Clone, Copy)]
 pub struct FadeRequest {
     pub with_on_off: bool,
     pub restores: bool,
@@ -81,7 +81,7 @@ pub struct FadeRequest {
 }
 
 // How a fade begins: at its target already, from no level, or with a first request.
-#[derive(Drop)]
+#[derive(Clone, Copy)]
 pub enum Begin {
     Reached,
     Lost,
@@ -89,7 +89,7 @@ pub enum Begin {
 }
 
 // How a move goes on: from no level, past 0 or 255, or with a request.
-#[derive(Drop)]
+#[derive(Clone, Copy)]
 pub enum MoveStep {
     Lost,
     Ends,

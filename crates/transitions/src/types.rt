@@ -6,35 +6,35 @@ ghost use Rattle.transitions.specs.Types.{executes_if_off, is_level, is_missing,
 use units::Tenths;
 
 // A level (CurrentLevel, OnLevel, StartUpCurrentLevel), or null.
-#[derive(Drop)]
+#[derive(Clone, Copy)]
 pub enum Level {
     Known(u8),
     Missing,
 }
 
 // A transition time, or null.
-#[derive(Drop)]
+#[derive(Clone, Copy)]
 pub enum Time {
     Known(Tenths),
     Missing,
 }
 
 // A rate in levels a second, or null.
-#[derive(Drop)]
+#[derive(Clone, Copy)]
 pub enum Rate {
     Known(u8),
     Missing,
 }
 
 // The direction of a step or a move: the source's StepModeEnum and MoveModeEnum.
-#[derive(Drop)]
+#[derive(Clone, Copy)]
 pub enum Mode {
     Up,
     Down,
 }
 
 // Options, a command's OptionsMask or its OptionsOverride. Of the eight bits only bit 0 means something here.
-#[derive(Drop)]
+#[derive(Clone, Copy)]
 pub struct OptionsBitmap(pub u8);
 
 impl Level {

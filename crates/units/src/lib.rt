@@ -1,5 +1,7 @@
 // The three units of time (document 01, part 1). Each is a type of its own, so that a count of tenths
 // can never be given where milliseconds are meant; a conversion's name says how it rounds.
+#![tactic(auto)]
+
 pub mod numbers;
 
 ghost use Rattle.std.specs.Prelude.{◌≡◌};
@@ -7,19 +9,19 @@ ghost use Rattle.units.specs.Laws.{Laws};
 ghost use Rattle.units.specs.Units.{is_zero, exceeds, tenths_apart, scaled_floor, tenths_to_millis, millis_same, millis_less, millis_divided, tenths_up, tenths_down, millis_to_micros, later, elapsed, before, at_most};
 
 // Tenths of a second, as the attributes hold them.
-#[derive(Drop)]
+#[derive(Clone, Copy)]
 pub struct Tenths(pub u16);
 
 // Milliseconds of a fade, and of a scene's time.
-#[derive(Drop)]
+#[derive(Clone, Copy)]
 pub struct Millis(pub u32);
 
 // Microseconds: a reading of the clock, or a span of it.
-#[derive(Drop)]
+#[derive(Clone, Copy)]
 pub struct Micros(pub u64);
 
 // Scaled tenths in the attribute's 16 bits.
-#[derive(Drop)]
+#[derive(Clone, Copy)]
 pub enum Scaled {
     Fits(Tenths),
     Overflow,
@@ -157,6 +159,7 @@ impl Micros {
 }
 
 // The laws of the conversions, for every value: a theorem, and nothing to run.
+#[tactic(auto, using(crate::proofs::Laws::unit_laws))]
 pub fn unit_laws_hold()
     ensures { Laws }
 {}

@@ -1,9 +1,0 @@
-use borrow.Author.Rules.{rules}
-use Rattle.transitions.proofs.types.Level.is.Statement.{statement}
-use Rattle.transitions.proofs.types.Level.is.Tie as tie
-
-returns : tie.Need-returns
-returns c = simp c.before.self.given.1
-
-pub is-spec : {M : Type 1} → statement M
-is-spec = tie.close (tie.spec (λ c. search rules) (λ c. search rules) returns (λ c. search rules))
