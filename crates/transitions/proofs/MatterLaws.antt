@@ -1,11 +1,11 @@
 -- Where the rules are what the Matter document says: proofs of specs/Matter.antt. Assumes nothing.
-use Prim.Native.Nat.{ℕ, zero, suc, ◌+◌, ◌-◌, ◌*◌, ◌/◌, ◌%◌, ◌^◌, ◌≤◌, ◌<◌, min, max}
+use Prim.Native.Nat.{ℕ, zero, suc, ◌+◌, ◌-◌, ◌%◌, ◌≤◌, min, max}
 use mathlib.Core.Bool.{Bool, true, false, cond, ◌&&◌, ◌||◌, not, beq, or-true, or-false, and_comm}
 use mathlib.Core.Path.{◌≡◌, refl, sym, ap, ◌∙◌}
 use native.Mathlib.Nat.{div-one}
 use native.Mathlib.Omega.{arith}
 use borrow.Author.Tests.{ltb-true, ltb-false, eqb-true, eqb-false, lt-ltb, le-ltb, eq-eqb, ne_eqb}
-use lib.Dec.{ltb, leb, eqb}
+use lib.Dec.{ltb, eqb}
 use Rattle.units.specs.Numbers.{apart}
 use Rattle.units.specs.declared.Tenths.{Tenths}
 use Rattle.units.specs.declared.Micros.{Micros}
@@ -15,7 +15,7 @@ use Rattle.transitions.specs.Options.{should_continue}
 use Rattle.transitions.specs.RemainingTime.{remaining_time_due}
 use Rattle.transitions.specs.CurrentLevel.{second, current_level_due}
 use Rattle.transitions.specs.Coupling.{coupled_on_off}
-use Rattle.transitions.specs.Commands.{target_level, step_level, step_time, rate_in_force}
+use Rattle.transitions.specs.Commands.{step_level, step_time, rate_in_force}
 use Rattle.transitions.specs.Matter.{executes, changed, level_reportable, time_reportable, increased, decreased, move_rate, on_off_after, after_sent, ProportionallyReduced, Agreement}
 use Rattle.transitions.specs.declared.types.Level.{Level}
 use Rattle.transitions.specs.declared.types.Level.TheVariants.{Known, Missing}

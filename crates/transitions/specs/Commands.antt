@@ -2,7 +2,6 @@
 use Rattle.std.specs.Prelude.{ℕ, ◌-◌, min, max, Bool, cond, ltb, leb, eqb}
 use Rattle.units.specs.Numbers.{held_to, sum_to255}
 use Rattle.units.specs.Units.{tenths, scaled_floor}
-use Rattle.units.specs.declared.Tenths.{Tenths}
 use Rattle.units.specs.declared.Scaled.{Scaled}
 use Rattle.units.specs.declared.Scaled.TheVariants as scaled
 use Rattle.transitions.specs.Types.{rate_or}

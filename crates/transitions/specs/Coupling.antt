@@ -1,5 +1,5 @@
 -- Part 5 of document 01: `update_coupled_on_off`.
-use Rattle.std.specs.Prelude.{ℕ, Bool, true, false, cond, ◌&&◌, not, List, [], ◌∷◌, ltb}
+use Rattle.std.specs.Prelude.{ℕ, Bool, cond, ◌&&◌, not, List, [], ◌∷◌, ltb}
 use Rattle.std.specs.Bool.{beq}
 use Rattle.transitions.specs.declared.coupling.Coupling.{Coupling}
 use Rattle.transitions.specs.declared.coupling.Coupling.TheVariants.{Sent, NotSent}

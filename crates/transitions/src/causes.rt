@@ -42,6 +42,7 @@ pub struct Tests {
 }
 
 // 0 where none applies, and where the options stop an event before a later cause is looked at.
+#[tactic(auto, unfolding(crate::specs::Causes::first_cause))]
 pub fn first_cause(t: Tests) -> u8
     ensures { result ≡ first_cause t }
 {

@@ -44,6 +44,7 @@ impl MoveRate {
 
 // The target of a command, of a scene and of a reaction: within MIN..MAX, but 255 as it is. (The source's
 // move_to_level_validation refuses a level above 254, and both of its callers drop that refusal.)
+#[tactic(auto, unfolding(crate::specs::Commands::target_level))]
 pub fn target_level(level: u8, min_level: u8, max_level: u8) -> u8
     ensures { result ≡ target_level level min_level max_level }
 {
@@ -61,6 +62,7 @@ pub fn consults_options(level: u8) -> bool
 }
 
 // The target of a step, before the rules for targets.
+#[tactic(auto, unfolding(crate::specs::Commands::step_level))]
 pub fn step_level(mode: Mode, level: u8, step_size: u8, min_level: u8, max_level: u8) -> u8
     ensures { result ≡ step_level mode level step_size min_level max_level }
 {
@@ -71,6 +73,7 @@ pub fn step_level(mode: Mode, level: u8, step_size: u8, min_level: u8, max_level
 }
 
 // A step whose size came out different takes its time in proportion.
+#[tactic(auto, unfolding(crate::specs::Commands::step_time))]
 pub fn step_time(given: Time, actual_size: u8, step_size: u8) -> StepTime
     ensures { result ≡ step_time given actual_size step_size }
 {
@@ -90,6 +93,7 @@ pub fn step_time(given: Time, actual_size: u8, step_size: u8) -> StepTime
 }
 
 // A move's rate: the given one, else DefaultMoveRate, else the fastest; none of them may be 0.
+#[tactic(auto, unfolding(crate::specs::Commands::rate_in_force))]
 pub fn rate_in_force(given: Rate, default_move_rate: Rate, fastest_rate: u8) -> MoveRate
     ensures { result ≡ rate_in_force given default_move_rate fastest_rate }
 {

@@ -9,6 +9,7 @@ pub enum Coupling {
     NotSent,
 }
 
+#[tactic(auto, unfolding(crate::specs::Coupling::coupled_on_off))]
 pub fn coupled_on_off(
     with_on_off: bool,
     coupled: bool,

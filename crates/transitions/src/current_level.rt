@@ -7,6 +7,7 @@ use crate::types::Level;
 use units::Micros;
 
 // The least gap is a parameter: the state machine gives a second, as the source has it.
+#[tactic(auto, unfolding(crate::specs::CurrentLevel::current_level_due))]
 pub fn current_level_due(
     least_gap: Micros,
     last_report: Micros,

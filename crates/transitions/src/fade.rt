@@ -13,12 +13,14 @@ pub enum Next {
 }
 
 // The time between two requests of a fade over some levels.
+#[tactic(auto, unfolding(crate::specs::Fade::fade_period))]
 pub fn fade_period(transition_time: Tenths, steps: u8) -> Millis
     ensures { result ≡ fade_period transition_time steps }
 {
     transition_time.to_millis().div_floor(steps)
 }
 
+#[tactic(auto, unfolding(crate::specs::Fade::is_transition_start))]
 pub fn is_transition_start(remaining: Millis, transition_time: Tenths) -> bool
     ensures { result ≡ is_transition_start remaining transition_time }
 {
@@ -26,6 +28,7 @@ pub fn is_transition_start(remaining: Millis, transition_time: Tenths) -> bool
 }
 
 // The unrounded remaining time after an answer.
+#[tactic(auto, unfolding(crate::specs::Fade::remaining_after))]
 pub fn remaining_after(remaining: Millis, period: Millis, is_transition_end: bool) -> Millis
     ensures { result ≡ remaining_after remaining period is_transition_end }
 {
@@ -36,6 +39,7 @@ pub fn remaining_after(remaining: Millis, period: Millis, is_transition_end: boo
 }
 
 // The level that a fade asks for next: its own counter moves by one, whatever level the device gave back.
+#[tactic(auto, unfolding(crate::specs::Fade::next_level))]
 pub fn next_level(counter: u8, target: u8, transition_time: Tenths) -> u8
     ensures { result ≡ next_level counter target transition_time }
 {
@@ -52,6 +56,7 @@ pub fn next_level(counter: u8, target: u8, transition_time: Tenths) -> u8
 }
 
 // The rest of the period, if the device left any.
+#[tactic(auto, unfolding(crate::specs::Fade::wait_or_ask))]
 pub fn wait_or_ask(asked: Micros, answered: Micros, period: Micros) -> Next
     ensures { result ≡ wait_or_ask asked answered period }
 {

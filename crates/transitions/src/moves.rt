@@ -6,6 +6,7 @@ ghost use Rattle.transitions.specs.Moves.{move_period};
 use units::Micros;
 
 // The time between two requests of a move (the source's Duration::from_hz). A rate of 0, which is refused before, gives 0.
+#[tactic(auto, unfolding(crate::specs::Moves::move_period))]
 pub fn move_period(rate: u8) -> Micros
     ensures { result ≡ move_period rate }
 {

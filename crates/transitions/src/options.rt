@@ -5,6 +5,7 @@ ghost use Rattle.transitions.specs.Options.{should_continue};
 
 use crate::types::OptionsBitmap;
 
+#[tactic(auto, unfolding(crate::specs::Options::should_continue))]
 pub fn should_continue(
     with_on_off: bool,
     coupled: bool,

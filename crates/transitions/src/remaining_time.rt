@@ -5,6 +5,7 @@ ghost use Rattle.transitions.specs.RemainingTime.{remaining_time_due};
 
 use units::Tenths;
 
+#[tactic(auto, unfolding(crate::specs::RemainingTime::remaining_time_due))]
 pub fn remaining_time_due(previous: Tenths, next: Tenths, is_start_of_transition: bool) -> bool
     ensures { result ≡ remaining_time_due previous next is_start_of_transition }
 {

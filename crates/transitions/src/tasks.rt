@@ -186,6 +186,7 @@ impl Fade {
     }
 
     // With its next request open.
+    #[tactic(auto, unfolding(crate::specs::Tasks::fade_asking))]
     pub fn asking(self, remaining: Millis, now: Micros) -> Fade
         ensures { result ≡ fade_asking self remaining now }
     {
@@ -199,6 +200,7 @@ impl Fade {
         }
     }
 
+    #[tactic(auto, unfolding(crate::specs::Tasks::fade_waiting))]
     pub fn waiting(self, remaining: Millis, until: Micros) -> Fade
         ensures { result ≡ fade_waiting self remaining until }
     {
@@ -244,6 +246,7 @@ pub fn after_fade(restores: bool, level: u8) -> AfterFade
 }
 
 // Which level is put back when a fade has ended: none where an on level is known by then.
+#[tactic(auto, unfolding(crate::specs::Tasks::level_to_restore))]
 pub fn level_to_restore(after: AfterFade, on_level: Level) -> Level
     ensures { result ≡ level_to_restore after on_level }
 {
@@ -257,6 +260,7 @@ pub fn level_to_restore(after: AfterFade, on_level: Level) -> Level
 }
 
 // A fade from a level, with its first request open.
+#[tactic(auto, unfolding(crate::specs::Tasks::fade_from))]
 pub fn fade_from(level: u8, request: FadeRequest, now: Micros) -> Fade
     ensures { result ≡ fade_from level request now }
 {
@@ -280,6 +284,7 @@ pub fn fade_from(level: u8, request: FadeRequest, now: Micros) -> Fade
     }
 }
 
+#[tactic(auto, unfolding(crate::specs::Tasks::begin_fade))]
 pub fn begin_fade(level: Level, request: FadeRequest, now: Micros) -> Begin
     ensures { result ≡ begin_fade level request now }
 {
@@ -295,6 +300,7 @@ pub fn begin_fade(level: Level, request: FadeRequest, now: Micros) -> Begin
 }
 
 // The level that a move asks for from the stored one.
+#[tactic(auto, unfolding(crate::specs::Tasks::next_move))]
 pub fn next_move(level: Level, mode: Mode) -> MoveStep
     ensures { result ≡ next_move level mode }
 {
@@ -325,6 +331,7 @@ pub fn is_move_end(asked: u8, min_level: u8, max_level: u8) -> bool
 }
 
 // At its limit, and no further, a move does nothing.
+#[tactic(auto, unfolding(crate::specs::Tasks::at_limit))]
 pub fn at_limit(level: Level, mode: Mode, min_level: u8, max_level: u8) -> bool
     ensures { result ≡ at_limit level mode min_level max_level }
 {

@@ -3,11 +3,13 @@ ghost use Rattle.transitions.specs.Laws.{Laws};
 ghost use Rattle.transitions.specs.Matter.{Agreement};
 
 // The rules in document 01's own words.
+#[tactic(auto, using(crate::proofs::RuleLaws::rule_laws))]
 pub fn rule_laws_hold()
     ensures { Laws }
 {}
 
 // Where the rules are what the Matter document says.
+#[tactic(auto, using(crate::proofs::MatterLaws::matter_agrees))]
 pub fn matter_agrees()
     ensures { Agreement }
 {}

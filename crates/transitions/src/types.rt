@@ -59,6 +59,7 @@ impl Level {
         }
     }
 
+    #[tactic(auto, unfolding(crate::specs::Types::same_level))]
     pub fn same(self, other: Level) -> bool
         ensures { result ≡ same_level self other }
     {
@@ -68,6 +69,7 @@ impl Level {
         }
     }
 
+    #[tactic(auto, unfolding(crate::specs::Types::level_or))]
     pub fn or_else(self, other: Level) -> Level
         ensures { result ≡ level_or self other }
     {
@@ -89,6 +91,7 @@ impl Level {
 }
 
 impl Time {
+    #[tactic(auto, unfolding(crate::specs::Types::time_or))]
     pub fn or_else(self, other: Tenths) -> Tenths
         ensures { result ≡ time_or self other }
     {
