@@ -1,4 +1,6 @@
 // The bytes of a record. Past its end they read as 0, so that every read is total.
+#![tactic(auto, unfolding(crate::specs::Bytes::has_marks, crate::specs::Bytes::is_flag, crate::specs::Bytes::is_set, crate::specs::Bytes::zeros_from))]
+
 ghost use Rattle.std.specs.Prelude.{◌≡◌};
 ghost use Rattle.records.specs.Bytes.{byte_at, has_marks, is_flag, is_set, le16, le32, le64, zeros_from};
 
@@ -59,6 +61,7 @@ pub fn is_set(bytes: &[u8], at: usize) -> bool
 }
 
 // Unnamed bytes are 0. They are read eight at a time, and past the end as 0.
+#[tactic(auto, using(crate::proofs::ByteLaws::zeros_step, crate::proofs::ByteLaws::zeros_end), unfolding(crate::specs::Bytes::zeros_from))]
 pub fn zeros_from(bytes: &[u8], from: usize) -> bool
     ensures { result ≡ zeros_from bytes.now from }
 {

@@ -1,4 +1,6 @@
 // A record to an event. Each kind has a function of its own; from byte 12 on it says what the bytes are.
+#![tactic(auto, unfolding(crate::specs::Events::answer, crate::specs::Events::answer_at, crate::specs::Events::device_stop, crate::specs::Events::device_update, crate::specs::Events::event_if, crate::specs::Events::event_read, crate::specs::Events::factory_reset, crate::specs::Events::move_to_level, crate::specs::Events::on_off_changed, crate::specs::Events::scene, crate::specs::Events::set_default_move_rate, crate::specs::Events::set_on_level, crate::specs::Events::set_start_up_current_level, crate::specs::Events::start_up, crate::specs::Events::step, crate::specs::Events::stop, crate::specs::Events::wake))]
+
 ghost use Rattle.std.specs.Prelude.{◌≡◌};
 ghost use Rattle.records.specs.Events.{answer, answer_at, device_stop, device_update, event_if, event_read, factory_reset, move, move_to_level, on_off_changed, scene, set_default_move_rate, set_on_level, set_start_up_current_level, start_up, step, stop, wake};
 

@@ -9,6 +9,7 @@ pub mod values;
 ghost use Rattle.records.specs.Laws.{Laws};
 
 // The records in document 01's own words: a theorem, and nothing to run.
+#[tactic(auto, using(crate::proofs::RecordLaws::record_laws))]
 pub fn record_laws_hold()
     ensures { Laws }
 {}

@@ -1,4 +1,6 @@
 // A record to settings, or the first of the numbers 1 to 4 that refuses it.
+#![tactic(auto, unfolding(crate::specs::Settings::attributes_at, crate::specs::Settings::settings_at, crate::specs::Settings::settings_read, crate::specs::Settings::settings_wrong))]
+
 ghost use Rattle.std.specs.Prelude.{◌≡◌};
 ghost use Rattle.records.specs.Settings.{attributes_at, settings_at, settings_read, settings_wrong};
 

@@ -1,4 +1,6 @@
 // Values that a flag or a bit marks as known. Of a missing one, the bytes are not looked at.
+#![tactic(auto, unfolding(crate::specs::Values::level_if, crate::specs::Values::mode_of, crate::specs::Values::rate_if, crate::specs::Values::time_if))]
+
 ghost use Rattle.std.specs.Prelude.{◌≡◌};
 ghost use Rattle.records.specs.Values.{level_if, mode_of, rate_if, time_if};
 
