@@ -8,10 +8,11 @@ use native.Mathlib.Numerals.{sub-one}
 use native.Mathlib.Omega.{arith}
 use borrow.Author.Tests.{lt-ltb, le-ltb}
 use lib.ListN.{length, get_or, set, drop, length-append, get_or-append}
-use lib.Seq.{append_snoc}
+use lib.Seq.{append_snoc, sets}
+use Rattle.std.proofs.lemmas.Grind.{common_steps}
 use Rattle.text.specs.Text.{Room, Wrote, most, digits, digits_within, three_digits}
 use Rattle.text.specs.Laws.{read_after, read_digits, All, Digit}
-use Rattle.text.proofs.WriteLaws.{by_test, then}
+use Rattle.text.proofs.WriteLaws.{by_test, then, writes}
 
 within_one : (k x : ℕ) → x < 10 → digits_within (suc k) x ≡ (code "0" + x) ∷ []
 unfolding digits_within
@@ -48,7 +49,7 @@ digits_three x h g =
     let first : x / 10 / 10 ≡ x / 100 = omega arith in
     digits_more x (omega arith) (omega arith) ∙ rw (digits_two (x / 10) (omega arith) (omega arith), first)
 
-digits_thousands : (x : ℕ) → x < 2 ^ 64 → 1000 ≤ x → digits x ≡ digits (x / 1000) ++ three_digits (x % 1000)
+pub digits_thousands : (x : ℕ) → x < 2 ^ 64 → 1000 ≤ x → digits x ≡ digits (x / 1000) ++ three_digits (x % 1000)
 digits_thousands x b h =
     let thousands : x / 10 / 10 / 10 ≡ x / 1000 = omega arith in
     let third : x / 10 / 10 % 10 ≡ x % 1000 / 100 = omega arith in
@@ -57,6 +58,24 @@ digits_thousands x b h =
     digits_more x b (omega arith)
     ∙ rw (digits_more (x / 10) (omega arith) (omega arith), digits_more (x / 10 / 10) (omega arith) (omega arith), thousands, third, second, first)
     (simp append_assoc)
+
+-- and where they are written
+
+pub sets_one : (old : List ℕ) (at x : ℕ) → x < 10 → sets old at (digits x) ≡ set old at (code "0" + x)
+sets_one old at x h = rw (digits_one x h)
+
+pub sets_two : (old : List ℕ) (at x : ℕ) → 10 ≤ x → x < 100 → sets old at (digits x) ≡ set (set old at (code "0" + x / 10)) (suc at) (code "0" + x % 10)
+sets_two old at x h g = rw (digits_two x h g)
+
+pub length_one : (x : ℕ) → x < 10 → length (digits x) ≡ 1
+length_one x h = rw (digits_one x h)
+
+pub length_two : (x : ℕ) → 10 ≤ x → x < 100 → length (digits x) ≡ 2
+length_two x h g = rw (digits_two x h g)
+
+pub ruleset small = (sets_one, sets_two, length_one, length_two, digits_three, common_steps)
+
+pub ruleset thousands = (digits_thousands, writes)
 
 -- digits that have room
 

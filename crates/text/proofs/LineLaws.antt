@@ -25,6 +25,8 @@ use Rattle.text.specs.Text.{Room, Wrote, ascii, digits, digits_within}
 use Rattle.text.specs.Line.{letter_of, shows_value, level_text, word_text, action_text, actions_text, numbers_text, line_of}
 use Rattle.text.specs.Laws.{LevelByte}
 use Rattle.text.proofs.DigitLaws.{digits_below, digits_at_most}
+use Rattle.text.proofs.WriteLaws.{sets_then, set_then}
+use Rattle.std.proofs.Math.Seq.{length-sets}
 
 actions_append : (xs ys : List Action) → actions_text (xs ++ ys) ≡ actions_text xs ++ actions_text ys
 unfolding actions_text
@@ -48,7 +50,7 @@ by_places a =
     ++ actions_text (then_of a.then)
     ++ actions_text (last_of a.last)
 
-places_text : (a : Actions) → actions_text (actions_of a) ≡ by_places a
+pub places_text : (a : Actions) → actions_text (actions_of a) ≡ by_places a
 unfolding actions_of reports_of
 places_text a = simp (
   actions_append,
@@ -67,13 +69,15 @@ pub places_room : (a : Actions) {old : List ℕ} {at : ℕ} → Room old at (act
 places_room a room = rw (places_text a) at room
 
 -- a letter that stands alone has a space before it
-if_length : (test : Bool) (letter : ℕ) → length (cond test (word_text letter) []) ≡ cond test 2 0
+pub if_length : (test : Bool) (letter : ℕ) → length (cond test (word_text letter) []) ≡ cond test 2 0
 if_length true letter = refl
 if_length false letter = refl
 
 pub if_room : (test : Bool) (letter : ℕ) {old : List ℕ} {at : ℕ} → Room old at (cond test (word_text letter) []) → at + cond test 2 0 ≤ length old
 if_room true letter room = omega (arith, room.fits)
 if_room false letter room = omega (arith, room.fits)
+
+pub ruleset places = (places_text, if_length, length-append, length-sets)
 
 pub places_length : (a : Actions) → length (actions_text (actions_of a))
     ≡ cond a.reports.stored 2 0
@@ -172,6 +176,8 @@ pub line_some : (index number : ℕ) (level : Level) (remaining : Tenths) (actio
     → 1 ≤ length (line_of index number level remaining actions)
 unfolding line_of
 line_some index number level remaining actions = simp length-append (omega arith)
+
+pub ruleset lines = (line_at_most, line_some, sets_then, set_then, length-append, length-sets)
 
 level_length : (l : Level) → LevelByte l → length (level_text l) ≤ 3
 unfolding level_text

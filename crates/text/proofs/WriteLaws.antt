@@ -10,6 +10,7 @@ use borrow.Author.Tests.{le-leb, lt-leb, ltb-true, ltb-false}
 use lib.Dec.{leb, ltb}
 use lib.ListN.{length, set, get_or, drop, length-append, drop_of_length-le}
 use lib.Seq.{sets, length-sets, set_out, drop-cons}
+use Rattle.std.proofs.lemmas.Grind.{common_steps}
 use Rattle.text.specs.Text.{Room, Wrote, most, put_whole}
 
 by_bool : {G : Type 0} (t : Bool) → (t ≡ true → G) → (t ≡ false → G) → G
@@ -43,6 +44,15 @@ then {old} {at} {a} {mid} {p} {b} {new} {r} h w v = record {
         (λ g e. v.bytes ∙ rw (w.bytes, w.next, e) (sets_out (sets old at a) most b (simp length-sets h)
         ∙ sym (sets_out (sets old at a) (at + length a) b (simp length-sets (omega arith)))
         ∙ sets_append old at a b))
+
+-- the same as equations, for `grind`
+pub sets_then : (old a b : List ℕ) (at p : ℕ) → length old ≤ most → p ≡ min (at + length a) most → sets (sets old at a) p b ≡ sets old at (a ++ b)
+sets_then old a b at p h e = (then {b = b} h (record { bytes = refl; next = e }) (record { bytes = refl; next = refl })).bytes
+
+pub set_then : (old a : List ℕ) (at p b : ℕ) → length old ≤ most → p ≡ min (at + length a) most → set (sets old at a) p b ≡ sets old at (a ++ (b ∷ []))
+set_then old a at p b h e = sets_then old a (b ∷ []) at p h e
+
+pub ruleset writes = (sets_then, set_then, length-sets, common_steps)
 
 -- nothing written
 pub none_wrote : {old : List ℕ} {at : ℕ} → at ≤ most → Wrote old at [] old at

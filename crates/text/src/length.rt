@@ -11,6 +11,7 @@ use transitions::types::Level;
 use units::Tenths;
 
 // The bytes that `put_line` writes of the same parts.
+#[tactic(auto, using(crate::proofs::LineLaws::line_parts))]
 pub fn line_length(
     index: u64,
     number: u8,
@@ -35,6 +36,7 @@ fn numbers_length(index: u64, number: u8, level: Level, remaining: Tenths) -> us
     before + level_length(level) + digits_length(remaining.0 as u64) + spaces
 }
 
+#[tactic(auto, using(crate::proofs::LineLaws::places_length))]
 fn actions_length(actions: Actions) -> usize
     ensures value { result ≡ length (actions_text (actions_of actions)) }
     ensures upper_bound { result ≤ 74 }
@@ -48,6 +50,7 @@ fn actions_length(actions: Actions) -> usize
     before + coupling_length(coupling) + after + then_length(then) + last_length(last)
 }
 
+#[tactic(auto, unfolding(crate::specs::Line::level_text))]
 fn level_length(level: Level) -> usize
     ensures value { result ≡ length (level_text level) }
     ensures upper_bound { result ≤ 20 }
@@ -69,6 +72,7 @@ fn if_length(test: bool) -> usize
     0
 }
 
+#[tactic(auto, using(crate::proofs::LineLaws::c_length), unfolding(crate::specs::Line::actions_text, crate::specs::Line::action_text))]
 fn coupling_length(coupling: Coupling) -> usize
     ensures value { result ≡ length (actions_text (act_coupled coupling)) }
     ensures upper_bound { result ≤ 22 }
@@ -79,6 +83,7 @@ fn coupling_length(coupling: Coupling) -> usize
     }
 }
 
+#[tactic(auto, using(crate::proofs::LineLaws::c_length), unfolding(crate::specs::Line::actions_text, crate::specs::Line::action_text))]
 fn then_length(then: Then) -> usize
     ensures value { result ≡ length (actions_text (then_of then)) }
     ensures upper_bound { result ≤ 22 }
@@ -90,6 +95,7 @@ fn then_length(then: Then) -> usize
     }
 }
 
+#[tactic(auto, unfolding(crate::specs::Line::actions_text, crate::specs::Line::action_text))]
 fn last_length(last: Last) -> usize
     ensures value { result ≡ length (actions_text (last_of last)) }
     ensures upper_bound { result ≤ 22 }
@@ -105,6 +111,7 @@ fn last_length(last: Last) -> usize
     }
 }
 
+#[tactic(auto, using(crate::proofs::DigitLaws::digits_one, crate::proofs::DigitLaws::digits_some, crate::proofs::DigitLaws::digits_shorter, crate::proofs::DigitLaws::digits_at_most))]
 fn digits_length(x: u64) -> usize
     ensures value { result ≡ length (digits x) }
     ensures upper_bound { result ≤ 20 }

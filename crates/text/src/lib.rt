@@ -22,6 +22,7 @@ pub fn put(out: &mut [u8], at: usize, b: u8) -> usize
 
 // A number in decimal, with no leading zeros, and the position past it. The digits after the first are found from the last one on;
 // a number of one digit needs no search.
+#[tactic(auto, using(crate::proofs::DigitLaws::sets_one, crate::proofs::DigitLaws::length_one, crate::proofs::DigitLaws::place_left))]
 pub fn put_decimal(out: &mut [u8], at: usize, x: u64) -> usize
     ensures { Wrote out.old at (digits x) out.new result }
 {
@@ -42,6 +43,7 @@ pub fn put_decimal(out: &mut [u8], at: usize, x: u64) -> usize
 }
 
 // The bytes of a slice, and the position past them.
+#[tactic(auto, using(crate::proofs::WriteLaws::writes))]
 pub fn put_all(out: &mut [u8], at: usize, text: &[u8]) -> usize
     ensures { Wrote out.old at text.now out.new result }
 {
@@ -63,6 +65,7 @@ pub fn front(n: usize, out: &[u8]) -> usize
 }
 
 // The text in document 01's own words: a theorem, and nothing to run.
+#[tactic(auto, using(crate::proofs::TextLaws::text_laws))]
 pub fn text_laws_hold()
     ensures { Laws }
 {}

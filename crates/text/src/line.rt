@@ -15,6 +15,7 @@ use transitions::types::Level;
 use units::Tenths;
 
 // The position past the line; where the line has no room, nothing is written. So the same function measures a line and writes it.
+#[tactic(auto, using(crate::proofs::LineLaws::lines), unfolding(crate::specs::Line::line_of, crate::specs::Text::put_whole))]
 pub fn put_line(
     out: &mut [u8],
     at: usize,
@@ -37,6 +38,7 @@ pub fn put_line(
 }
 
 // The length of a line that does not fit from a place on, or 0. It is measured only where there are less than 189 bytes, which no line exceeds.
+#[tactic(auto, using(crate::proofs::LineLaws::line_at_most, crate::proofs::LineLaws::line_some))]
 fn length_if_too_long(
     end: usize,
     at: usize,
@@ -80,6 +82,7 @@ fn past(at: usize, n: usize) -> usize
     usize::MAX
 }
 
+#[tactic(auto, using(crate::proofs::WriteLaws::writes))]
 fn put_numbers(
     out: &mut [u8],
     at: usize,
@@ -100,6 +103,7 @@ fn put_numbers(
     put_number(out, remaining_at, remaining.0 as u64)
 }
 
+#[tactic(auto, using(crate::proofs::LineLaws::places))]
 fn put_actions(out: &mut [u8], at: usize, actions: Actions) -> usize
     requires { Room out.old at (actions_text (actions_of actions)) }
     ensures { Wrote out.old at (actions_text (actions_of actions)) out.new result }
@@ -117,6 +121,7 @@ fn put_actions(out: &mut [u8], at: usize, actions: Actions) -> usize
     put_last(out, after_then, last)
 }
 
+#[tactic(auto, using(crate::proofs::WriteLaws::writes), unfolding(crate::specs::Line::level_text))]
 fn put_level(out: &mut [u8], at: usize, level: Level) -> usize
     requires { Room out.old at (level_text level) }
     ensures { Wrote out.old at (level_text level) out.new result }
@@ -138,6 +143,7 @@ fn put_if(out: &mut [u8], at: usize, test: bool, letter: u8) -> usize
     at
 }
 
+#[tactic(auto, using(crate::proofs::WriteLaws::writes), unfolding(crate::specs::Line::actions_text))]
 fn put_coupling(out: &mut [u8], at: usize, coupling: Coupling) -> usize
     requires { Room out.old at (actions_text (act_coupled coupling)) }
     ensures { Wrote out.old at (actions_text (act_coupled coupling)) out.new result }
@@ -148,6 +154,7 @@ fn put_coupling(out: &mut [u8], at: usize, coupling: Coupling) -> usize
     }
 }
 
+#[tactic(auto, using(crate::proofs::WriteLaws::writes), unfolding(crate::specs::Line::actions_text, crate::specs::Line::action_text))]
 fn put_then(out: &mut [u8], at: usize, then: Then) -> usize
     requires { Room out.old at (actions_text (then_of then)) }
     ensures { Wrote out.old at (actions_text (then_of then)) out.new result }
@@ -159,6 +166,7 @@ fn put_then(out: &mut [u8], at: usize, then: Then) -> usize
     }
 }
 
+#[tactic(auto, using(crate::proofs::WriteLaws::writes), unfolding(crate::specs::Line::actions_text, crate::specs::Line::action_text))]
 fn put_last(out: &mut [u8], at: usize, last: Last) -> usize
     requires { Room out.old at (actions_text (last_of last)) }
     ensures { Wrote out.old at (actions_text (last_of last)) out.new result }
@@ -174,6 +182,7 @@ fn put_last(out: &mut [u8], at: usize, last: Last) -> usize
     }
 }
 
+#[tactic(auto, using(crate::proofs::WriteLaws::writes), unfolding(crate::specs::Line::actions_text, crate::specs::Line::action_text, crate::specs::Text::digits, crate::specs::Text::digits_within))]
 fn put_c(out: &mut [u8], at: usize, wanted: bool) -> usize
     requires { Room out.old at (actions_text (act C (cond wanted 1 0))) }
     ensures { Wrote out.old at (actions_text (act C (cond wanted 1 0))) out.new result }
@@ -194,6 +203,7 @@ fn put_valued(out: &mut [u8], at: usize, letter: u8, value: u8) -> usize
     put_eight_bits(out, value_at, value)
 }
 
+#[tactic(auto, using(crate::proofs::WriteLaws::writes), unfolding(crate::specs::Line::actions_text, crate::specs::Line::action_text))]
 fn put_w(out: &mut [u8], at: usize, until: u64) -> usize
     requires { Room out.old at (actions_text (act W until)) }
     ensures { Wrote out.old at (actions_text (act W until)) out.new result }
@@ -212,6 +222,7 @@ fn put_letter(out: &mut [u8], at: usize, letter: u8) -> usize
 }
 
 // The last digits of a time in µs are written in threes, twice: so only one of 10^9 µs or more is searched for its digits.
+#[tactic(auto, using(crate::proofs::DigitLaws::thousands))]
 fn put_time(out: &mut [u8], at: usize, x: u64) -> usize
     requires { Room out.old at (digits x) }
     ensures { Wrote out.old at (digits x) out.new result }
@@ -223,6 +234,7 @@ fn put_time(out: &mut [u8], at: usize, x: u64) -> usize
     put_three(out, next, x % 1000)
 }
 
+#[tactic(auto, using(crate::proofs::DigitLaws::thousands))]
 fn put_thousands(out: &mut [u8], at: usize, x: u64) -> usize
     requires { Room out.old at (digits x) }
     ensures { Wrote out.old at (digits x) out.new result }
@@ -253,6 +265,7 @@ fn put_eight_bits(out: &mut [u8], at: usize, x: u8) -> usize
 }
 
 // A number of one, two or three digits.
+#[tactic(auto, using(crate::proofs::DigitLaws::small))]
 fn put_small(out: &mut [u8], at: usize, x: u64) -> usize
     requires { (Room out.old at (digits x)) × (x < 1000) }
     ensures { Wrote out.old at (digits x) out.new result }
