@@ -1,5 +1,5 @@
 -- What holds between two events of a fade, and that each accepted answer with a level and each accepted wake keeps it. Assumes nothing.
-use Prim.Native.Nat.{ℕ, zero, ◌+◌, ◌-◌, ◌*◌, ◌/◌, ◌≤◌, ◌<◌}
+use Prim.Native.Nat.{ℕ, ◌+◌, ◌-◌, ◌*◌, ◌/◌, ◌≤◌, ◌<◌}
 use mathlib.Core.Bool.{Bool, true, false, cond, not, ◌||◌, false≢true}
 use mathlib.Core.Path.{◌≡◌, refl, sym, ap, ◌∙◌}
 use mathlib.Core.List.{List, [], ◌∷◌, ◌++◌, append-nil}
@@ -34,7 +34,7 @@ use Rattle.transitions.specs.declared.types.Level.{Level}
 use Rattle.transitions.specs.declared.types.Level.TheVariants.{Known, Missing}
 use Rattle.level_control.specs.State.{accept, with_task, with_level, with_remaining_time}
 use Rattle.transitions.specs.ActionList.{reports_of}
-use Rattle.level_control.specs.Answer.{Outcome, done, refused}
+use Rattle.level_control.specs.Answer.{Outcome, done}
 use Rattle.level_control.specs.Reports.{write_remaining_time}
 use Rattle.level_control.specs.Fades.{fade_told, restored, fade_ended_by, fade_ended, fade_then, fade_goes_on, move_to_level_transition, fade_answered, fade_woken}
 use Rattle.level_control.specs.Causes.{turn_tests, command_tests_of}

@@ -1,5 +1,5 @@
 -- "Causes and numbers" of document 01: what the tests of the table say of an event in a state.
-use Rattle.std.specs.Prelude.{ℕ, Bool, true, false, not, ◌&&◌, ◌||◌, eqb}
+use Rattle.std.specs.Prelude.{Bool, false, not, ◌&&◌, ◌||◌, eqb}
 use Rattle.units.specs.Units.{micros, before}
 use Rattle.units.specs.declared.Micros.{Micros}
 use Rattle.transitions.specs.Types.{is_missing, is_outside, is_zero_rate}

@@ -1,5 +1,5 @@
 -- Demand 3: one claim about every fade and every list of events after its start.
-use Rattle.std.specs.Prelude.{ℕ, suc, ◌+◌, ◌-◌, ◌*◌, ◌/◌, ◌≤◌, ◌<◌, Bool, true, false, cond, ◌||◌, ◌≡◌, ◌↔◌, List, [], ◌∷◌, eqb, take}
+use Rattle.std.specs.Prelude.{ℕ, suc, ◌+◌, ◌*◌, ◌≤◌, true, cond, ◌||◌, ◌≡◌, ◌↔◌, List, eqb, take}
 use Rattle.transitions.specs.declared.events.DeviceAnswer.TheVariants as device
 use Rattle.transitions.specs.declared.events.Event.{Event}
 use Rattle.transitions.specs.declared.events.EventKind.TheVariants as kind

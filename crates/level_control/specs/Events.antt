@@ -1,5 +1,5 @@
 -- "How events run" of document 01: one event of any kind.
-use Rattle.std.specs.Prelude.{ℕ, Bool, true, false, cond, List, [], eqb}
+use Rattle.std.specs.Prelude.{ℕ, Bool, cond, [], eqb}
 use Rattle.units.specs.declared.Micros.{Micros}
 use Rattle.transitions.specs.Causes.{event_tests, first_cause}
 use Rattle.transitions.specs.Events.{turn_of}

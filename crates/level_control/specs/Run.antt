@@ -1,5 +1,5 @@
 -- Demand 3: what is seen of a play: the accepted events and their actions.
-use Rattle.std.specs.Prelude.{ℕ, ◌+◌, Bool, true, false, cond, not, ◌&&◌, ◌||◌, List, [], ◌∷◌, ◌++◌, eqb}
+use Rattle.std.specs.Prelude.{ℕ, ◌+◌, Bool, true, false, not, ◌&&◌, ◌||◌, List, [], ◌∷◌, ◌++◌, eqb}
 use Rattle.transitions.specs.declared.events.Action.{Action}
 use Rattle.transitions.specs.declared.events.ActionKind.{ActionKind}
 use Rattle.transitions.specs.declared.events.ActionKind.TheVariants.{D, P, S, C, L, R, W, E, K, X}

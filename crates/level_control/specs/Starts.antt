@@ -1,8 +1,7 @@
 -- Demand 3: which fade an accepted event starts, written from parts 6, 9 and 10 of document 01. The machine does not use these
 -- definitions; `every_fade_is_covered` says that they agree with it.
-use Rattle.std.specs.Prelude.{ℕ, ◌+◌, ◌-◌, ◌*◌, ◌/◌, min, max, Bool, true, false, cond, not, ◌||◌, leb, eqb}
+use Rattle.std.specs.Prelude.{ℕ, ◌+◌, ◌-◌, ◌*◌, ◌/◌, min, max, Bool, true, false, cond, ◌||◌, leb, eqb}
 use Rattle.transitions.specs.Matter.{executes}
-use Rattle.transitions.specs.declared.events.Event.{Event}
 use Rattle.transitions.specs.declared.events.EventKind.{EventKind}
 use Rattle.transitions.specs.declared.events.EventKind.TheVariants as kind
 use Rattle.transitions.specs.declared.events.StepRequest.{StepRequest}

@@ -1,5 +1,5 @@
 -- The state, and a state with something replaced.
-use Rattle.std.specs.Prelude.{Bool, true, false}
+use Rattle.std.specs.Prelude.{true, false}
 use Rattle.units.specs.Units.{tenths, micros}
 use Rattle.units.specs.declared.Tenths.{Tenths}
 use Rattle.units.specs.declared.Micros.{Micros}

@@ -29,6 +29,7 @@ pub struct Effect {
 
 impl Effect {
     // A refused event gives back the state it was given.
+    #[tactic(auto, unfolding(crate::specs::Answer::outcome_of, transitions::specs::ActionList::actions_of, transitions::specs::ActionList::reports_of))]
     pub fn refused(state: LevelControlState, number: u8) -> Effect
         ensures { outcome_of result ≡ refused state number }
     {
@@ -48,6 +49,7 @@ impl Effect {
 
 impl LevelControlState {
     // An accepted event that leaves this state, with one action at most.
+    #[tactic(auto, unfolding(crate::specs::Answer::outcome_of, transitions::specs::ActionList::actions_of, transitions::specs::ActionList::reports_of))]
     pub fn doing(self, last: Last) -> Effect
         ensures { outcome_of result ≡ done self (last_of last) }
     {
@@ -66,6 +68,7 @@ impl LevelControlState {
 }
 
 impl Answer {
+    #[tactic(auto, unfolding(crate::specs::Answer::outcome_of, crate::specs::Answer::packed, transitions::specs::ActionList::list_of))]
     pub fn of(effect: Effect) -> Answer
         ensures { result ≡ packed (outcome_of effect) }
     {

@@ -14,6 +14,7 @@ use units::Micros;
 
 impl LevelControlState {
     // Below the last accepted time, or above 2^62 − 1.
+    #[tactic(auto, unfolding(crate::specs::Causes::time_refused))]
     pub fn time_refused(self, at: Micros) -> bool
         ensures { result ≡ time_refused self at }
     {
@@ -21,6 +22,7 @@ impl LevelControlState {
     }
 
     // Causes 5 to 9.
+    #[tactic(auto, unfolding(crate::specs::Causes::turn_tests))]
     pub fn turn_tests(self, at: Micros, turn: Turn) -> TurnTests
         ensures { result ≡ turn_tests self at turn }
     {
@@ -60,6 +62,7 @@ impl LevelControlState {
     }
 
     // A target of 255 is not stopped: its options are not looked at.
+    #[tactic(auto, unfolding(crate::specs::Causes::move_to_level_tests))]
     pub fn move_to_level_tests(self, on_off: bool, request: MoveToLevelRequest) -> CommandTests
         ensures { result ≡ move_to_level_tests self on_off request }
     {
@@ -75,6 +78,7 @@ impl LevelControlState {
         }
     }
 
+    #[tactic(auto, unfolding(crate::specs::Causes::move_tests))]
     pub fn move_tests(self, on_off: bool, request: MoveRequest) -> CommandTests
         ensures { result ≡ move_tests self on_off request }
     {
@@ -93,6 +97,7 @@ impl LevelControlState {
     }
 
     // From a missing level there is no product.
+    #[tactic(auto, unfolding(crate::specs::Causes::step_overflows))]
     pub fn step_overflows(self, request: StepRequest) -> bool
         ensures { result ≡ step_overflows self request }
     {
@@ -106,6 +111,7 @@ impl LevelControlState {
         }
     }
 
+    #[tactic(auto, unfolding(crate::specs::Causes::step_tests))]
     pub fn step_tests(self, on_off: bool, request: StepRequest) -> CommandTests
         ensures { result ≡ step_tests self on_off request }
     {
@@ -125,6 +131,7 @@ impl LevelControlState {
         }
     }
 
+    #[tactic(auto, unfolding(crate::specs::Causes::stop_tests))]
     pub fn stop_tests(self, on_off: bool, request: StopRequest) -> CommandTests
         ensures { result ≡ stop_tests self on_off request }
     {
@@ -141,6 +148,7 @@ impl LevelControlState {
     }
 
     // A scene is a command without on/off and without a mask; one without a value is not stopped, and does nothing.
+    #[tactic(auto, unfolding(crate::specs::Causes::scene_tests))]
     pub fn scene_tests(self, on_off: bool, request: SceneRequest) -> CommandTests
         ensures { result ≡ scene_tests self on_off request }
     {
@@ -162,6 +170,7 @@ impl LevelControlState {
         }
     }
 
+    #[tactic(auto, unfolding(crate::specs::Causes::level_tests))]
     pub fn level_tests(self, level: Level) -> CommandTests
         ensures { result ≡ level_tests self level }
     {
@@ -172,6 +181,7 @@ impl LevelControlState {
     }
 
     // Causes 10 to 14 and the options.
+    #[tactic(auto, unfolding(crate::specs::Causes::command_tests_of))]
     pub fn command_tests(self, on_off: bool, kind: EventKind) -> CommandTests
         ensures { result ≡ command_tests_of self on_off kind }
     {
@@ -195,6 +205,7 @@ impl LevelControlState {
     }
 }
 
+#[tactic(auto, unfolding(crate::specs::Causes::rate_tests))]
 pub fn rate_tests(rate: Rate) -> CommandTests
     ensures { result ≡ rate_tests rate }
 {

@@ -19,6 +19,7 @@ use units::Micros;
 
 impl LevelControlState {
     // Event 5: the answer to the open request. (Without one it was refused: the state stays.)
+    #[tactic(auto, unfolding(crate::specs::Answer::outcome_of, crate::specs::Events::answered))]
     pub fn answered(self, answer: DeviceAnswer, at: Micros, on_off: bool) -> Effect
         ensures { outcome_of result ≡ answered self answer at on_off }
     {
@@ -45,6 +46,7 @@ impl LevelControlState {
     }
 
     // Event 6: the end of a wait. (Without one it was refused.)
+    #[tactic(auto, unfolding(crate::specs::Answer::outcome_of, crate::specs::Events::woken))]
     pub fn woken(self, at: Micros, on_off: bool) -> Effect
         ensures { outcome_of result ≡ woken self at on_off }
     {
@@ -62,6 +64,7 @@ impl LevelControlState {
     }
 
     // What one of the twelve kinds without a turn of their own does, once no cause refuses it and no options stop it.
+    #[tactic(auto, unfolding(crate::specs::Answer::outcome_of, crate::specs::Events::run))]
     fn run(self, kind: EventKind, at: Micros, on_off: bool) -> Effect
         requires { turn_of kind ≡ turn.Other }
         ensures { outcome_of result ≡ run self kind at on_off }
@@ -96,6 +99,7 @@ impl LevelControlState {
 
     // Start-up, answers and wakes: each has its own turn, and no tests of its values.
 
+    #[tactic(auto, unfolding(crate::specs::Answer::outcome_of, crate::specs::Events::event_of, crate::specs::Events::number_of, crate::specs::Causes::command_tests_of, crate::specs::Events::run))]
     fn start_up_event(self, at: Micros) -> Effect
         ensures { outcome_of result ≡ event_of self (event at false kind.StartUp) }
     {
@@ -106,6 +110,7 @@ impl LevelControlState {
         self.accept(at).started_up()
     }
 
+    #[tactic(auto, unfolding(crate::specs::Answer::outcome_of, crate::specs::Events::event_of, crate::specs::Events::number_of, crate::specs::Causes::command_tests_of, crate::specs::Events::run))]
     fn answer_event(self, answer: DeviceAnswer, at: Micros, on_off: bool) -> Effect
         ensures { outcome_of result ≡ event_of self (event at on_off (kind.Answer answer)) }
     {
@@ -116,6 +121,7 @@ impl LevelControlState {
         self.accept(at).answered(answer, at, on_off)
     }
 
+    #[tactic(auto, unfolding(crate::specs::Answer::outcome_of, crate::specs::Events::event_of, crate::specs::Events::number_of, crate::specs::Causes::command_tests_of, crate::specs::Events::run))]
     fn wake_event(self, at: Micros, on_off: bool) -> Effect
         ensures { outcome_of result ≡ event_of self (event at on_off kind.Wake) }
     {

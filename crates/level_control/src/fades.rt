@@ -17,6 +17,7 @@ use units::Micros;
 
 impl LevelControlState {
     // Coupling at the start and the end of a fade.
+    #[tactic(auto, unfolding(crate::specs::Fades::fade_coupling))]
     pub fn fade_coupling(self, fade: Fade, on_off: bool, level: u8) -> Coupling
         ensures { result ≡ fade_coupling self fade on_off level }
     {
@@ -27,6 +28,7 @@ impl LevelControlState {
     }
 
     // The answered level stored and the remaining time written: P, S, C, L and R.
+    #[tactic(auto, unfolding(crate::specs::Fades::fade_told, crate::specs::Fades::fade_stored))]
     pub fn fade_told(self, fade: Fade, at: Micros, on_off: bool, level: u8) -> Told
         ensures { result ≡ fade_told self fade at on_off level }
     {
@@ -50,6 +52,7 @@ impl LevelControlState {
     }
 
     // The device answered a level.
+    #[tactic(auto, unfolding(crate::specs::Answer::outcome_of, crate::specs::Fades::move_to_level_transition))]
     pub fn move_to_level_transition(
         self,
         fade: Fade,
@@ -90,6 +93,7 @@ impl LevelControlState {
     }
 
     // A failed device changes nothing but the noted previous level.
+    #[tactic(auto, unfolding(crate::specs::Answer::outcome_of, crate::specs::Fades::device_failed))]
     pub fn device_failed(self) -> Effect
         ensures { outcome_of result ≡ device_failed self }
     {
@@ -99,6 +103,7 @@ impl LevelControlState {
             .doing(Last::E(15))
     }
 
+    #[tactic(auto, unfolding(crate::specs::Answer::outcome_of, crate::specs::Fades::fade_answered))]
     pub fn fade_answered(
         self,
         fade: Fade,
@@ -119,6 +124,7 @@ impl LevelControlState {
     }
 
     // The wait is over: the next request.
+    #[tactic(auto, unfolding(crate::specs::Answer::outcome_of, crate::specs::Fades::fade_woken))]
     pub fn fade_woken(self, fade: Fade, at: Micros) -> Effect
         ensures { outcome_of result ≡ fade_woken self fade at }
     {
@@ -131,6 +137,7 @@ impl LevelControlState {
 
 impl Told {
     // The level before is put back without the device: P if it changes, and L.
+    #[tactic(auto, unfolding(crate::specs::Answer::outcome_of, crate::specs::Fades::restored, crate::specs::State::with_task, crate::specs::State::with_level))]
     pub fn restored(self, before: u8) -> Effect
         ensures { outcome_of result ≡ restored self before }
     {
@@ -145,6 +152,7 @@ impl Told {
     }
 
     // The end of a fade.
+    #[tactic(auto, unfolding(crate::specs::Answer::outcome_of, crate::specs::Fades::fade_ended))]
     pub fn fade_ended(self, after: AfterFade) -> Effect
         ensures { outcome_of result ≡ fade_ended self after }
     {
@@ -159,6 +167,7 @@ impl Told {
     }
 
     // Before the end: the rest of the period is waited for, or the next request is made at once.
+    #[tactic(auto, unfolding(crate::specs::Answer::outcome_of, crate::specs::Fades::fade_goes_on))]
     pub fn fade_goes_on(self, fade: Fade, since: Micros, at: Micros) -> Effect
         ensures { outcome_of result ≡ fade_goes_on self fade since at }
     {

@@ -19,6 +19,7 @@ use units::Micros;
 
 impl LevelControlState {
     // A request that leaves MIN upwards couples before it is made, in case the move is halted.
+    #[tactic(auto, unfolding(crate::specs::Moves::leaves_min))]
     pub fn leaves_min(self, asked: u8, with_on_off: bool, on_off: bool) -> Coupling
         ensures { result ≡ leaves_min self asked with_on_off on_off }
     {
@@ -30,12 +31,14 @@ impl LevelControlState {
         Coupling::NotSent
     }
 
+    #[tactic(auto, unfolding(crate::specs::Moves::move_ends))]
     pub fn move_ends(self, asked: u8) -> bool
         ensures { result ≡ move_ends self asked }
     {
         is_move_end(asked, self.settings.min_level, self.settings.max_level)
     }
 
+    #[tactic(auto, unfolding(crate::specs::Moves::rate_by))]
     pub fn rate_by(self, request: MoveRequest) -> MoveRate
         ensures { result ≡ rate_by self request }
     {
@@ -46,6 +49,7 @@ impl LevelControlState {
     }
 
     // Event 2, past the options: at its limit nothing happens, and a running task goes on.
+    #[tactic(auto, unfolding(crate::specs::Answer::outcome_of, crate::specs::Moves::begin_move))]
     pub fn begin_move(self, request: MoveRequest, at: Micros, on_off: bool) -> Effect
         ensures { outcome_of result ≡ begin_move self request at on_off }
     {
@@ -74,6 +78,7 @@ impl LevelControlState {
     }
 
     // The device answered a level. C at the end follows L.
+    #[tactic(auto, unfolding(crate::specs::Answer::outcome_of, crate::specs::Moves::move_transition))]
     pub fn move_transition(
         self,
         moving: Move,
@@ -95,6 +100,7 @@ impl LevelControlState {
     }
 
     // A missing answer in a move, or to the on reaction's request for MIN: P, S, L, E.
+    #[tactic(auto, unfolding(crate::specs::Answer::outcome_of, crate::specs::Moves::move_missing))]
     pub fn move_missing(self, is_end: bool, at: Micros) -> Effect
         ensures { outcome_of result ≡ move_missing self is_end at }
     {
@@ -102,6 +108,7 @@ impl LevelControlState {
         told.ends(Last::E(15))
     }
 
+    #[tactic(auto, unfolding(crate::specs::Answer::outcome_of, crate::specs::Moves::move_answered))]
     pub fn move_answered(
         self,
         moving: Move,
@@ -122,6 +129,7 @@ impl LevelControlState {
 
 impl Told {
     // The next request of a move, from the stored level.
+    #[tactic(auto, unfolding(crate::specs::Answer::outcome_of, crate::specs::Moves::move_goes_on))]
     pub fn move_goes_on(self, course: MoveCourse, at: Micros, on_off: bool) -> Effect
         ensures { outcome_of result ≡ move_goes_on self course at on_off }
     {
@@ -141,6 +149,7 @@ impl Told {
     }
 
     // After an answer before the end: wait, or ask at once.
+    #[tactic(auto, unfolding(crate::specs::Answer::outcome_of, crate::specs::Moves::move_then))]
     pub fn move_then(self, moving: Move, since: Micros, at: Micros, on_off: bool) -> Effect
         ensures { outcome_of result ≡ move_then self moving since at on_off }
     {

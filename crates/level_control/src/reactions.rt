@@ -14,6 +14,7 @@ use transitions::types::Level;
 use units::{Micros, Tenths};
 
 impl LevelControlState {
+    #[tactic(auto, unfolding(crate::specs::Reactions::on_time))]
     pub fn on_time(self) -> Tenths
         ensures { result ≡ on_time self }
     {
@@ -22,6 +23,7 @@ impl LevelControlState {
         time.or_else(attributes.on_off_transition_time)
     }
 
+    #[tactic(auto, unfolding(crate::specs::Reactions::off_time))]
     pub fn off_time(self) -> Tenths
         ensures { result ≡ off_time self }
     {
@@ -31,6 +33,7 @@ impl LevelControlState {
     }
 
     // On: the device goes to MIN first, also from MIN.
+    #[tactic(auto, unfolding(crate::specs::Answer::outcome_of, crate::specs::Reactions::turned_on))]
     pub fn turned_on(self) -> Effect
         ensures { outcome_of result ≡ turned_on self }
     {
@@ -41,6 +44,7 @@ impl LevelControlState {
     }
 
     // Off: a fade to MIN that restores.
+    #[tactic(auto, unfolding(crate::specs::Answer::outcome_of, crate::specs::Reactions::turned_off))]
     pub fn turned_off(self, at: Micros, on_off: bool) -> Effect
         ensures { outcome_of result ≡ turned_off self at on_off }
     {
@@ -49,6 +53,7 @@ impl LevelControlState {
     }
 
     // Event 7. The event's own value decides here; C compares with the on/off value that the event carries.
+    #[tactic(auto, unfolding(crate::specs::Answer::outcome_of, crate::specs::Reactions::switched))]
     pub fn switched(self, on: bool, at: Micros, on_off: bool) -> Effect
         ensures { outcome_of result ≡ switched self on at on_off }
     {
@@ -59,6 +64,7 @@ impl LevelControlState {
     }
 
     // The device's answer to the request for MIN. It is no end.
+    #[tactic(auto, unfolding(crate::specs::Answer::outcome_of, crate::specs::Reactions::on_answered))]
     pub fn on_answered(
         self,
         reaction: OnReaction,
@@ -81,6 +87,7 @@ impl LevelControlState {
 
 impl Told {
     // To the on level, else to the level before.
+    #[tactic(auto, unfolding(crate::specs::Answer::outcome_of, crate::specs::Reactions::on_goes_on))]
     pub fn on_goes_on(self, reaction: OnReaction, at: Micros, on_off: bool) -> Effect
         ensures { outcome_of result ≡ on_goes_on self reaction at on_off }
     {

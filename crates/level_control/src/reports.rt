@@ -35,6 +35,7 @@ pub struct Told {
 
 impl Told {
     // What is told, and what follows: the task that runs then, and the other actions.
+    #[tactic(auto, unfolding(transitions::specs::ActionList::reports_of, crate::specs::Answer::outcome_of, crate::specs::State::with_task, transitions::specs::ActionList::actions_of))]
     pub fn then(self, task: Task, then: Then, last: Last) -> Effect
         ensures { outcome_of result ≡ done (with_task self.state task) (reports_of self.reports ++ then_of then ++ last_of last) }
     {
@@ -71,6 +72,7 @@ pub fn noticed_at(due: bool, now: Micros, last: Micros) -> Micros
 }
 
 impl LevelControlState {
+    #[tactic(auto, unfolding(crate::specs::Reports::write_remaining_time, crate::specs::State::with_remaining_time))]
     pub fn write_remaining_time_quietly(
         self,
         remaining_time: Millis,
@@ -91,6 +93,7 @@ impl LevelControlState {
     }
 
     // Stores a level that the device gave; the source's least gap between reports is a second.
+    #[tactic(auto, unfolding(crate::specs::Reports::set_level, crate::specs::Reports::level_due, crate::specs::State::with_answered))]
     pub fn set_level(self, level: Level, now: Micros, is_end_of_transition: bool) -> Reported
         ensures { result ≡ set_level self level now is_end_of_transition }
     {
@@ -111,6 +114,7 @@ impl LevelControlState {
     }
 
     // The stored level with P, S and L: an answer in a move or a reaction.
+    #[tactic(auto, unfolding(crate::specs::Reports::told_level))]
     pub fn told_level(self, level: Level, now: Micros, is_end_of_transition: bool) -> Told
         ensures { result ≡ told_level self level now is_end_of_transition }
     {
@@ -130,6 +134,7 @@ impl LevelControlState {
         }
     }
 
+    #[tactic(auto, unfolding(crate::specs::Reports::coupled_by))]
     pub fn update_coupled_on_off(self, level: u8, with_on_off: bool, on_off: bool) -> Coupling
         ensures { result ≡ coupled_by self level with_on_off on_off }
     {
@@ -142,6 +147,7 @@ impl LevelControlState {
         )
     }
 
+    #[tactic(auto, unfolding(crate::specs::Reports::continues))]
     pub fn should_continue(
         self,
         with_on_off: bool,

@@ -17,6 +17,7 @@ use units::{Micros, Millis, numbers};
 
 impl LevelControlState {
     // The start-up level within MIN..MAX, else the stored one as it is.
+    #[tactic(auto, unfolding(crate::specs::Rest::start_up_level))]
     pub fn start_up_level(self) -> Level
         ensures { result ≡ start_up_level self }
     {
@@ -33,6 +34,7 @@ impl LevelControlState {
     }
 
     // Event 0.
+    #[tactic(auto, unfolding(crate::specs::Answer::outcome_of, crate::specs::Rest::started_up))]
     pub fn started_up(self) -> Effect
         ensures { outcome_of result ≡ started_up self }
     {
@@ -62,6 +64,7 @@ impl LevelControlState {
         told.ends(Last::Nothing)
     }
 
+    #[tactic(auto, unfolding(crate::specs::Answer::outcome_of, crate::specs::Rest::start_up_answered))]
     pub fn start_up_answered(self, answer: DeviceAnswer) -> Effect
         ensures { outcome_of result ≡ start_up_answered self answer }
     {
@@ -73,6 +76,7 @@ impl LevelControlState {
     }
 
     // Event 9: the device's level changed under us. It counts as an end.
+    #[tactic(auto, unfolding(crate::specs::Answer::outcome_of, crate::specs::Rest::updated))]
     pub fn updated(self, level: u8, at: Micros) -> Effect
         ensures { outcome_of result ≡ updated self level at }
     {
@@ -97,6 +101,7 @@ impl LevelControlState {
 
     // Events 11 to 13, past their refusals: the attribute is set, and K says that it is to be stored.
 
+    #[tactic(auto, unfolding(crate::specs::Answer::outcome_of, crate::specs::Rest::on_level_set))]
     pub fn on_level_set(self, on_level: Level) -> Effect
         ensures { outcome_of result ≡ on_level_set self on_level }
     {
@@ -108,6 +113,7 @@ impl LevelControlState {
         self.with_attributes(next).doing(Last::K)
     }
 
+    #[tactic(auto, unfolding(crate::specs::Answer::outcome_of, crate::specs::Rest::default_move_rate_set))]
     pub fn default_move_rate_set(self, default_move_rate: Rate) -> Effect
         ensures { outcome_of result ≡ default_move_rate_set self default_move_rate }
     {
@@ -119,6 +125,7 @@ impl LevelControlState {
         self.with_attributes(next).doing(Last::K)
     }
 
+    #[tactic(auto, unfolding(crate::specs::Answer::outcome_of, crate::specs::Rest::start_up_current_level_set))]
     pub fn start_up_current_level_set(self, start_up_current_level: Level) -> Effect
         ensures { outcome_of result ≡ start_up_current_level_set self start_up_current_level }
     {
@@ -131,6 +138,7 @@ impl LevelControlState {
     }
 
     // Event 14.
+    #[tactic(auto, unfolding(crate::specs::Answer::outcome_of, crate::specs::Rest::reset_all))]
     pub fn reset_all(self) -> Effect
         ensures { outcome_of result ≡ reset_all self }
     {

@@ -25,6 +25,7 @@ pub struct LevelControlState {
 }
 
 impl LevelControlState {
+    #[tactic(auto, unfolding(crate::specs::State::new_state))]
     pub fn new(settings: Settings) -> LevelControlState
         ensures { result ≡ new_state settings }
     {
@@ -44,6 +45,7 @@ impl LevelControlState {
     }
 
     // The state made from the settings again, but for the level and what was accepted.
+    #[tactic(auto, unfolding(crate::specs::State::put_back, crate::specs::State::new_state))]
     pub fn put_back(self) -> LevelControlState
         ensures { result ≡ put_back self }
     {
@@ -59,6 +61,7 @@ impl LevelControlState {
         }
     }
 
+    #[tactic(auto, unfolding(crate::specs::State::accept))]
     pub fn accept(self, at: Micros) -> LevelControlState
         ensures { result ≡ accept self at }
     {
@@ -69,6 +72,7 @@ impl LevelControlState {
         }
     }
 
+    #[tactic(auto, unfolding(crate::specs::State::with_task))]
     pub fn with_task(self, task: Task) -> LevelControlState
         ensures { result ≡ with_task self task }
     {
@@ -76,6 +80,7 @@ impl LevelControlState {
     }
 
     // CurrentLevel, without the device.
+    #[tactic(auto, unfolding(crate::specs::State::with_level))]
     pub fn with_level(self, current_level: Level) -> LevelControlState
         ensures { result ≡ with_level self current_level }
     {
@@ -85,6 +90,7 @@ impl LevelControlState {
         }
     }
 
+    #[tactic(auto, unfolding(crate::specs::State::with_previous_level))]
     pub fn with_previous_level(self, previous_current_level: Level) -> LevelControlState
         ensures { result ≡ with_previous_level self previous_current_level }
     {
@@ -94,6 +100,7 @@ impl LevelControlState {
         }
     }
 
+    #[tactic(auto, unfolding(crate::specs::State::with_attributes))]
     pub fn with_attributes(self, attributes: Attributes) -> LevelControlState
         ensures { result ≡ with_attributes self attributes }
     {

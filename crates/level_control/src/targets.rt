@@ -50,6 +50,7 @@ impl LevelControlState {
 
 impl Told {
     // Ends the running task; then the target is reached, or there is no level to fade from, or a fade starts.
+    #[tactic(auto, unfolding(crate::specs::Answer::outcome_of, crate::specs::Targets::go_to))]
     pub fn go_to(self, request: FadeRequest, at: Micros, on_off: bool) -> Effect
         ensures { outcome_of result ≡ go_to self request at on_off }
     {
@@ -78,6 +79,7 @@ impl Told {
 
 impl LevelControlState {
     // Event 1, past the options. A missing time is 0.
+    #[tactic(auto, unfolding(crate::specs::Answer::outcome_of, crate::specs::Targets::moved_to_level))]
     pub fn moved_to_level(self, request: MoveToLevelRequest, at: Micros, on_off: bool) -> Effect
         ensures { outcome_of result ≡ moved_to_level self request at on_off }
     {
@@ -88,6 +90,7 @@ impl LevelControlState {
     }
 
     // Where a step from a level goes.
+    #[tactic(auto, unfolding(crate::specs::Targets::stepped_level))]
     pub fn stepped_level(self, level: u8, request: StepRequest) -> u8
         ensures { result ≡ stepped_level self level request }
     {
@@ -102,6 +105,7 @@ impl LevelControlState {
     }
 
     // How long a step from a level takes, by the size that came out.
+    #[tactic(auto, unfolding(crate::specs::Targets::stepped_time))]
     pub fn stepped_time(self, level: u8, request: StepRequest) -> StepTime
         ensures { result ≡ stepped_time self level request }
     {
@@ -111,6 +115,7 @@ impl LevelControlState {
     }
 
     // Event 3, past its refusals: the step's level is a target like any other.
+    #[tactic(auto, unfolding(crate::specs::Answer::outcome_of, crate::specs::Targets::stepped))]
     pub fn stepped(self, request: StepRequest, at: Micros, on_off: bool) -> Effect
         ensures { outcome_of result ≡ stepped self request at on_off }
     {
@@ -132,6 +137,7 @@ impl LevelControlState {
     }
 
     // Event 8, past the options: a scene without a value does nothing.
+    #[tactic(auto, unfolding(crate::specs::Answer::outcome_of, crate::specs::Targets::recalled))]
     pub fn recalled(self, request: SceneRequest, at: Micros, on_off: bool) -> Effect
         ensures { outcome_of result ≡ recalled self request at on_off }
     {
