@@ -6,6 +6,7 @@ ghost use Rattle.event_theorems.specs.ByField.{ByField};
 
 // A refused event has the number of the first cause that meets it and changes nothing; one that the options stop changes nothing but the last
 // accepted time, and that an event was accepted; of any other, each field of the state and each letter among the actions is what document 01 says of that field and that letter.
+#[tactic(auto, using(crate::proofs::ByFieldHolds::by_field))]
 pub fn every_field_holds()
     ensures { ByField }
 {}
