@@ -10,7 +10,6 @@ ghost use Rattle.level_control.specs.Demand3.{EveryFade};
 
 // Demand 1: of every event in every state. Refused ones change nothing, the number is that of the first cause, the actions are
 // at most seven and stand in document 01's orders; and where times, waits and levels come from.
-#[tactic(auto, using(crate::proofs::Demand1Laws::demand_1))]
 pub fn every_event_holds()
     ensures { Demand1 }
 {}
@@ -22,14 +21,12 @@ pub fn every_fade_holds()
 {}
 
 // From c to t lead n levels; the i-th is i above c, or below it, and the last is t.
-#[tactic(auto, using(crate::proofs::PathTheorem::path_is))]
 pub fn path_leads()
     ensures { PathIs }
 {}
 
 // No fade is left out: an accepted event starts the fade that parts 6, 9 and 10 name; where they name none, no fade runs after it but the
 // one that ran before, gone on or left as it was.
-#[tactic(auto, using(crate::proofs::EveryFadeCovered::every_fade_covered))]
 pub fn every_fade_is_covered()
     ensures { EveryFadeCovered }
 {}
@@ -65,7 +62,6 @@ pub fn wakes_are_accepted()
 {}
 
 // Progress: every fade of at least 1 tenth comes to rest after n answers, whatever levels the device answers and however late, by 2^62 − 1.
-#[tactic(auto, using(crate::proofs::Progress::comes_to_rest))]
 pub fn every_fade_comes_to_rest()
     ensures { ComesToRest }
 {}

@@ -1,0 +1,5 @@
+use Rattle.level_theorems.proofs.Progress.{comes_to_rest}
+use Rattle.level_theorems.proofs.every_fade_comes_to_rest.Goals as goal
+
+pub returns : goal.returns
+returns c = comes_to_rest

@@ -1,0 +1,5 @@
+use Rattle.level_theorems.proofs.EveryFadeCovered.{every_fade_covered}
+use Rattle.level_theorems.proofs.every_fade_is_covered.Goals as goal
+
+pub returns : goal.returns
+returns c = every_fade_covered
