@@ -51,7 +51,6 @@ use Rattle.event_theorems.specs.Course as course
 use Rattle.event_theorems.specs.Course.{Course, course_letter, task_on, towards}
 use Rattle.event_theorems.specs.Fields.{next_state}
 use Rattle.event_theorems.specs.Letters.{back_letters, couples, couples_reached, leaves_min, move_on_couples, on_reached, letters}
-use Rattle.event_theorems.specs.Table.{asked}
 use Rattle.event_theorems.proofs.CommandLaws.{never, goes, go_to_is, move_is, changed_to, changed_away, changed_is, told_letters}
 use Rattle.event_theorems.proofs.RunLaws.{gives}
 

@@ -3,7 +3,7 @@ use Prim.Native.Nat.{ℕ}
 use mathlib.Core.Bool.{Bool, true, false, not}
 use mathlib.Core.Path.{◌≡◌, refl, sym, ap, ◌∙◌}
 use Rattle.units.specs.declared.Micros.{Micros}
-use Rattle.transitions.specs.Events.{event, turn_of}
+use Rattle.transitions.specs.Events.{turn_of}
 use Rattle.transitions.specs.Tasks.{task_open}
 use Rattle.transitions.specs.declared.events.Event.{Event}
 use Rattle.transitions.specs.declared.events.EventKind.{EventKind}

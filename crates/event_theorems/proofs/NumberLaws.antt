@@ -1,16 +1,15 @@
 -- The machine's number is that of the first cause of the table, and its options are the table's. Assumes nothing.
 use Prim.Native.Nat.{ℕ, ◌*◌, ◌/◌}
 use mathlib.Core.Bool.{Bool, true, false, cond, not, ◌&&◌, ◌||◌}
-use mathlib.Core.Path.{◌≡◌, refl, sym, ap, ◌∙◌}
-use mathlib.Core.List.{List, [], ◌∷◌}
-use lib.Dec.{eqb, leb, ltb}
+use mathlib.Core.Path.{◌≡◌, refl, ap, ◌∙◌}
+use lib.Dec.{eqb, ltb}
 use Rattle.units.specs.Units.{tenths, scaled_floor}
 use Rattle.units.specs.declared.Micros.{Micros}
 use Rattle.units.specs.declared.Scaled.TheVariants as scaled
 use Rattle.units.specs.declared.Tenths.{Tenths}
-use Rattle.transitions.specs.Causes.{event_tests, first_cause}
+use Rattle.transitions.specs.Causes.{first_cause}
 use Rattle.transitions.specs.Commands.{scaled_time, step_time, is_overflow, rate_in_force, is_invalid}
-use Rattle.transitions.specs.Events.{event, turn_of}
+use Rattle.transitions.specs.Events.{event}
 use Rattle.transitions.specs.Matter.{move_rate}
 use Rattle.transitions.specs.Tasks.{phase_open, task_open, phase_due, task_due}
 use Rattle.transitions.specs.Types.{is_outside, is_zero_rate}
@@ -31,16 +30,15 @@ use Rattle.transitions.specs.declared.types.Rate.{Rate}
 use Rattle.transitions.specs.declared.types.Rate.TheVariants as rate
 use Rattle.transitions.specs.declared.types.Time.{Time}
 use Rattle.transitions.specs.declared.types.Time.TheVariants as time
-use Rattle.level_control.specs.Causes.{time_refused, turn_tests, move_to_level_tests, move_tests, overflows_from, step_overflows, step_tests, stop_tests, scene_tests_at, scene_tests, level_tests, rate_tests, command_tests_of}
+use Rattle.level_control.specs.Causes.{time_refused, turn_tests, move_to_level_tests, move_tests, overflows_from, step_overflows, step_tests, stop_tests, scene_tests, level_tests, rate_tests, command_tests_of}
 use Rattle.level_control.specs.Events.{number_of}
 use Rattle.level_control.specs.Moves.{rate_by}
-use Rattle.level_control.specs.Reports.{continues}
-use Rattle.level_control.specs.Starts.{distance, passes, step_to}
-use Rattle.level_control.specs.Targets.{stepped_level, stepped_time}
+use Rattle.level_control.specs.Starts.{distance, step_to}
+use Rattle.level_control.specs.Targets.{stepped_time}
 use Rattle.level_control.specs.declared.state.LevelControlState.{LevelControlState}
 use Rattle.level_control.proofs.EventLaws.{stopped_in}
 use Rattle.level_control.proofs.StartLaws.{continues_is, step_is}
-use Rattle.event_theorems.specs.Table.{asked, request_open, ended, wait_over, product_too_large, outside, is_rate0, scene_rows, command_rows, causes, number_by}
+use Rattle.event_theorems.specs.Table.{asked, request_open, ended, wait_over, product_too_large, outside, is_rate0, number_by}
 use Rattle.event_theorems.specs.ByField.{stopped}
 
 open_is : (t : Task) → task_open t ≡ request_open t

@@ -10,7 +10,6 @@ use Rattle.transitions.specs.declared.settings.Attributes.{Attributes}
 use Rattle.transitions.specs.declared.settings.Settings.{Settings}
 use Rattle.transitions.specs.declared.tasks.AfterFade.{AfterFade}
 use Rattle.transitions.specs.declared.tasks.AfterFade.TheVariants.{Stay, Restore}
-use Rattle.transitions.specs.declared.tasks.Fade.{Fade}
 use Rattle.transitions.specs.declared.tasks.Task.{Task}
 use Rattle.transitions.specs.declared.tasks.Task.TheVariants as task
 use Rattle.transitions.specs.declared.types.Level.{Level}

@@ -1,5 +1,5 @@
 -- What every event gives in every state: its number cause by cause, the state field by field, the actions letter by letter.
-use Rattle.std.specs.Prelude.{ℕ, Bool, true, false, ◌&&◌, ◌||◌, ◌≡◌, List, [], ◌∷◌, eqb}
+use Rattle.std.specs.Prelude.{Bool, true, false, ◌&&◌, ◌||◌, ◌≡◌, List, [], ◌∷◌, eqb}
 use Rattle.units.specs.declared.Micros.{Micros}
 use Rattle.transitions.specs.Causes.{Row}
 use Rattle.transitions.specs.declared.events.Event.{Event}

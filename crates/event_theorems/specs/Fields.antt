@@ -1,5 +1,5 @@
 -- What an accepted event that no options stop leaves in each field of the state. The machine uses nothing of this page.
-use Rattle.std.specs.Prelude.{ℕ, ◌-◌, Bool, true, false, cond, ◌||◌, eqb, leb}
+use Rattle.std.specs.Prelude.{◌-◌, Bool, true, false, cond, ◌||◌, eqb, leb}
 use Rattle.units.specs.Units.{tenths, millis, micros, tenths_up}
 use Rattle.units.specs.declared.Micros.{Micros}
 use Rattle.units.specs.declared.Tenths.{Tenths}
@@ -11,7 +11,7 @@ use Rattle.transitions.specs.declared.tasks.Fade.{Fade}
 use Rattle.transitions.specs.declared.tasks.Task.{Task}
 use Rattle.transitions.specs.declared.tasks.Task.TheVariants as task
 use Rattle.transitions.specs.declared.types.Level.{Level}
-use Rattle.transitions.specs.declared.types.Level.TheVariants.{Known, Missing}
+use Rattle.transitions.specs.declared.types.Level.TheVariants.{Missing}
 use Rattle.level_control.specs.declared.state.LevelControlState.{LevelControlState}
 use Rattle.event_theorems.specs.Brings.{Brings, Tells, Nothing, Told, Failure, AtStartUp, tells, stored_back}
 use Rattle.event_theorems.specs.Brings as bring

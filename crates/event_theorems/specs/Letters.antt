@@ -1,6 +1,5 @@
 -- When each letter stands among the actions of an accepted event that no options stop. The machine uses nothing of this page.
 use Rattle.std.specs.Prelude.{ℕ, ◌+◌, ◌-◌, ◌*◌, Bool, true, false, cond, not, ◌&&◌, ◌||◌, List, [], ◌++◌, eqb, leb, ltb}
-use Rattle.units.specs.Units.{tenths}
 use Rattle.units.specs.declared.Micros.{Micros}
 use Rattle.transitions.specs.Coupling.{coupled_on_off}
 use Rattle.transitions.specs.Events.{act, act_if, act_coupled}

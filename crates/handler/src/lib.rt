@@ -4,7 +4,7 @@
 #![tactic(auto)]
 
 ghost use Rattle.std.specs.Prelude.{◌≡◌};
-ghost use Rattle.transitions.specs.Events.{event as eventAt};
+ghost use Rattle.transitions.specs.Events.{event as event_at};
 ghost use Rattle.transitions.specs.Scene.{scene_of};
 ghost use Rattle.transitions.specs.declared.events.EventKind.TheVariants as kinds;
 ghost use Rattle.level_control.specs.Answer.{packed};
@@ -28,7 +28,7 @@ pub struct LevelControlHandler {
 impl LevelControlHandler {
     // Event 0.
     pub fn startup(mut self, at: Micros, on_off: bool) -> Answer
-        ensures { result ≡ packed (event_of self.state (eventAt at on_off kinds.StartUp)) }
+        ensures { result ≡ packed (event_of self.state (event_at at on_off kinds.StartUp)) }
     {
         let state = self.state;
         state.event(Event {
@@ -40,7 +40,7 @@ impl LevelControlHandler {
 
     // Event 1.
     pub fn move_to_level(mut self, at: Micros, on_off: bool, request: MoveToLevelRequest) -> Answer
-        ensures { result ≡ packed (event_of self.state (eventAt at on_off (kinds.MoveToLevel request))) }
+        ensures { result ≡ packed (event_of self.state (event_at at on_off (kinds.MoveToLevel request))) }
     {
         let state = self.state;
         state.event(Event {
@@ -52,7 +52,7 @@ impl LevelControlHandler {
 
     // Event 2.
     pub fn move_command(mut self, at: Micros, on_off: bool, request: MoveRequest) -> Answer
-        ensures { result ≡ packed (event_of self.state (eventAt at on_off (kinds.Move request))) }
+        ensures { result ≡ packed (event_of self.state (event_at at on_off (kinds.Move request))) }
     {
         let state = self.state;
         state.event(Event {
@@ -64,7 +64,7 @@ impl LevelControlHandler {
 
     // Event 3.
     pub fn step(mut self, at: Micros, on_off: bool, request: StepRequest) -> Answer
-        ensures { result ≡ packed (event_of self.state (eventAt at on_off (kinds.Step request))) }
+        ensures { result ≡ packed (event_of self.state (event_at at on_off (kinds.Step request))) }
     {
         let state = self.state;
         state.event(Event {
@@ -76,7 +76,7 @@ impl LevelControlHandler {
 
     // Event 4.
     pub fn stop(mut self, at: Micros, on_off: bool, request: StopRequest) -> Answer
-        ensures { result ≡ packed (event_of self.state (eventAt at on_off (kinds.Stop request))) }
+        ensures { result ≡ packed (event_of self.state (event_at at on_off (kinds.Stop request))) }
     {
         let state = self.state;
         state.event(Event {
@@ -88,7 +88,7 @@ impl LevelControlHandler {
 
     // Event 5. The device's answer to the open request.
     pub fn answer(mut self, at: Micros, on_off: bool, answer: DeviceAnswer) -> Answer
-        ensures { result ≡ packed (event_of self.state (eventAt at on_off (kinds.Answer answer))) }
+        ensures { result ≡ packed (event_of self.state (event_at at on_off (kinds.Answer answer))) }
     {
         let state = self.state;
         state.event(Event {
@@ -100,7 +100,7 @@ impl LevelControlHandler {
 
     // Event 6. The end of a wait: the source's timer.
     pub fn wake(mut self, at: Micros, on_off: bool) -> Answer
-        ensures { result ≡ packed (event_of self.state (eventAt at on_off kinds.Wake)) }
+        ensures { result ≡ packed (event_of self.state (event_at at on_off kinds.Wake)) }
     {
         let state = self.state;
         state.event(Event {
@@ -112,7 +112,7 @@ impl LevelControlHandler {
 
     // Event 7.
     pub fn handle_on_off_state_change(mut self, at: Micros, on_off: bool, on: bool) -> Answer
-        ensures { result ≡ packed (event_of self.state (eventAt at on_off (kinds.OnOffChanged on))) }
+        ensures { result ≡ packed (event_of self.state (event_at at on_off (kinds.OnOffChanged on))) }
     {
         let state = self.state;
         state.event(Event {
@@ -124,7 +124,7 @@ impl LevelControlHandler {
 
     // Event 8.
     pub fn recall(mut self, at: Micros, on_off: bool, request: SceneRequest) -> Answer
-        ensures { result ≡ packed (event_of self.state (eventAt at on_off (kinds.Scene request))) }
+        ensures { result ≡ packed (event_of self.state (event_at at on_off (kinds.Scene request))) }
     {
         let state = self.state;
         state.event(Event {
@@ -136,7 +136,7 @@ impl LevelControlHandler {
 
     // Event 9. The source's OutOfBandMessage::Update.
     pub fn update(mut self, at: Micros, on_off: bool, level: u8) -> Answer
-        ensures { result ≡ packed (event_of self.state (eventAt at on_off (kinds.DeviceUpdate level))) }
+        ensures { result ≡ packed (event_of self.state (event_at at on_off (kinds.DeviceUpdate level))) }
     {
         let state = self.state;
         state.event(Event {
@@ -148,7 +148,7 @@ impl LevelControlHandler {
 
     // Event 10. The source's OutOfBandMessage::Stop.
     pub fn device_stop(mut self, at: Micros, on_off: bool) -> Answer
-        ensures { result ≡ packed (event_of self.state (eventAt at on_off kinds.DeviceStop)) }
+        ensures { result ≡ packed (event_of self.state (event_at at on_off kinds.DeviceStop)) }
     {
         let state = self.state;
         state.event(Event {
@@ -160,7 +160,7 @@ impl LevelControlHandler {
 
     // Event 11.
     pub fn set_on_level(mut self, at: Micros, on_off: bool, level: Level) -> Answer
-        ensures { result ≡ packed (event_of self.state (eventAt at on_off (kinds.SetOnLevel level))) }
+        ensures { result ≡ packed (event_of self.state (event_at at on_off (kinds.SetOnLevel level))) }
     {
         let state = self.state;
         state.event(Event {
@@ -172,7 +172,7 @@ impl LevelControlHandler {
 
     // Event 12.
     pub fn set_default_move_rate(mut self, at: Micros, on_off: bool, rate: Rate) -> Answer
-        ensures { result ≡ packed (event_of self.state (eventAt at on_off (kinds.SetDefaultMoveRate rate))) }
+        ensures { result ≡ packed (event_of self.state (event_at at on_off (kinds.SetDefaultMoveRate rate))) }
     {
         let state = self.state;
         state.event(Event {
@@ -184,7 +184,7 @@ impl LevelControlHandler {
 
     // Event 13.
     pub fn set_start_up_current_level(mut self, at: Micros, on_off: bool, level: Level) -> Answer
-        ensures { result ≡ packed (event_of self.state (eventAt at on_off (kinds.SetStartUpCurrentLevel level))) }
+        ensures { result ≡ packed (event_of self.state (event_at at on_off (kinds.SetStartUpCurrentLevel level))) }
     {
         let state = self.state;
         state.event(Event {
@@ -196,7 +196,7 @@ impl LevelControlHandler {
 
     // Event 14.
     pub fn factory_reset(mut self, at: Micros, on_off: bool) -> Answer
-        ensures { result ≡ packed (event_of self.state (eventAt at on_off kinds.FactoryReset)) }
+        ensures { result ≡ packed (event_of self.state (event_at at on_off kinds.FactoryReset)) }
     {
         let state = self.state;
         state.event(Event {
@@ -215,7 +215,7 @@ impl LevelControlHandler {
         values: &[u16],
         transition_time: Millis,
     ) -> Answer
-        ensures { result ≡ packed (event_of self.state (eventAt at on_off (kinds.Scene (scene_of ids.now values.now transition_time)))) }
+        ensures { result ≡ packed (event_of self.state (event_at at on_off (kinds.Scene (scene_of ids.now values.now transition_time)))) }
     {
         let level = scene_level(ids, values);
         self.recall(

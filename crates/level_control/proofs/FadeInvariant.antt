@@ -40,7 +40,7 @@ use Rattle.level_control.specs.Fades.{fade_told, restored, fade_ended_by, fade_e
 use Rattle.level_control.specs.Causes.{turn_tests, command_tests_of}
 use Rattle.level_control.specs.Events.{fade_answered_in, answered_in, answered, woken_in, woken, run, number_of, event_of}
 use Rattle.level_control.specs.Path.{path}
-use Rattle.level_control.specs.Run.{Run, Pending, Nothing, Request, Wait, asks, opened, closed_by, accepted, is_onward, next_by, next as nextRun}
+use Rattle.level_control.specs.Run.{Run, Pending, Nothing, Request, Wait, asks, opened, closed_by, accepted, is_onward, next_by, next as next_run}
 use Rattle.level_control.specs.Starts.{distance}
 use Rattle.level_control.specs.declared.reports.Told.{Told}
 use Rattle.level_control.specs.declared.state.LevelControlState.{LevelControlState}
@@ -283,8 +283,8 @@ module _ (c t T : ℕ) (pos : 1 ≤ T) where
     Kept r = Inv c t T r.asked r.answers r.state.remaining_time.0 r.pending r.state.task
 
     -- an accepted event, by its outcome
-    pub next_is : (r : Run) (e : Event) (o : Outcome) → event_of r.state e ≡ o → o.number ≡ 0 → nextRun r e ≡ next_by true o (turn_of e.kind) r
-    unfolding nextRun
+    pub next_is : (r : Run) (e : Event) (o : Outcome) → event_of r.state e ≡ o → o.number ≡ 0 → next_run r e ≡ next_by true o (turn_of e.kind) r
+    unfolding next_run
     next_is r e o q z = rw q (rw (eq-eqb o.number 0 z) refl)
 
     pub answer_is : (s : LevelControlState) (at : Micros) (on : Bool) (v : ℕ) → number_of s (event at on (kind.Answer (device.Level v))) ≡ 0
@@ -310,7 +310,7 @@ module _ (c t T : ℕ) (pos : 1 ≤ T) where
     same_time s at = refl
 
     keep_answer : (r : Run) (at : Micros) (on : Bool) (v : ℕ) → number_of r.state (event at on (kind.Answer (device.Level v))) ≡ 0
-        → Kept r → Kept (nextRun r (event at on (kind.Answer (device.Level v))))
+        → Kept r → Kept (next_run r (event at on (kind.Answer (device.Level v))))
     keep_answer r at on v z h =
         let s : LevelControlState = r.state in
         let e : Event = event at on (kind.Answer (device.Level v)) in
@@ -320,7 +320,7 @@ module _ (c t T : ℕ) (pos : 1 ≤ T) where
         rw (next_is r e o (answer_is s at on v z) zero, answer_closes r.asked r.answers s.remaining_time.0 r.pending s.task is_open h)
         (after_answer (accept s at) v at on r.asked r.answers s.remaining_time.0 r.pending s.task is_open h)
 
-    keep_wake : (r : Run) (at : Micros) (on : Bool) → number_of r.state (event at on kind.Wake) ≡ 0 → Kept r → Kept (nextRun r (event at on kind.Wake))
+    keep_wake : (r : Run) (at : Micros) (on : Bool) → number_of r.state (event at on kind.Wake) ≡ 0 → Kept r → Kept (next_run r (event at on kind.Wake))
     keep_wake r at on z h =
         let s : LevelControlState = r.state in
         let e : Event = event at on kind.Wake in
@@ -331,7 +331,7 @@ module _ (c t T : ℕ) (pos : 1 ≤ T) where
         (after_wake (accept s at) at on r.asked r.answers r.pending s.task due (rw (same_time s at) h))
 
     keep_onward : (r : Run) (at : Micros) (on : Bool) (k : EventKind) → is_onward k ≡ true → number_of r.state (event at on k) ≡ 0
-        → Kept r → Kept (nextRun r (event at on k))
+        → Kept r → Kept (next_run r (event at on k))
     keep_onward r at on kind.StartUp w z h = absurd (false≢true w)
     keep_onward r at on (kind.MoveToLevel x) w z h = absurd (false≢true w)
     keep_onward r at on (kind.Move x) w z h = absurd (false≢true w)
@@ -351,15 +351,15 @@ module _ (c t T : ℕ) (pos : 1 ≤ T) where
     keep_onward r at on kind.FactoryReset w z h = absurd (false≢true w)
 
     -- a refused event leaves the run as it was
-    pub refused_is : (r : Run) (e : Event) → (number_of r.state e ≡ 0 → ⊥) → nextRun r e ≡ r
-    unfolding nextRun
+    pub refused_is : (r : Run) (e : Event) → (number_of r.state e ≡ 0 → ⊥) → next_run r e ≡ r
+    unfolding next_run
     refused_is r e ne = rw (event_refused r.state e ne) (simp (ne_eqb (number_of r.state e) 0 ne, append-nil))
 
     -- every event that the list may hold keeps it, a refused one too
-    pub keep : (r : Run) (e : Event) → (not (accepted r.state e) || is_onward e.kind) ≡ true → Kept r → Kept (nextRun r e)
+    pub keep : (r : Run) (e : Event) → (not (accepted r.state e) || is_onward e.kind) ≡ true → Kept r → Kept (next_run r e)
     keep r e w h = go (eqb (number_of r.state e) 0) refl
       where
-        go : (b : Bool) → eqb (number_of r.state e) 0 ≡ b → Kept (nextRun r e)
+        go : (b : Bool) → eqb (number_of r.state e) 0 ≡ b → Kept (next_run r e)
         go true q =
             let z = eqb-true (number_of r.state e) 0 q in
             let onward : is_onward e.kind ≡ true = rw (event_number r.state e, q) at w in

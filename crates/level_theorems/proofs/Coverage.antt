@@ -18,8 +18,6 @@ use Rattle.transitions.specs.declared.events.EventKind.TheVariants as kind
 use Rattle.transitions.specs.declared.events.MoveToLevelRequest.{MoveToLevelRequest}
 use Rattle.transitions.specs.declared.events.SceneRequest.{SceneRequest}
 use Rattle.transitions.specs.declared.events.StepRequest.{StepRequest}
-use Rattle.transitions.specs.declared.tasks.Fade.{Fade}
-use Rattle.transitions.specs.declared.tasks.Move.{Move}
 use Rattle.transitions.specs.declared.tasks.OnReaction.{OnReaction}
 use Rattle.transitions.specs.declared.tasks.Phase.{Phase}
 use Rattle.transitions.specs.declared.tasks.Phase.TheVariants.{Asked, Waiting}

@@ -21,8 +21,6 @@ use Rattle.transitions.specs.declared.events.EventKind.TheVariants as kind
 use Rattle.transitions.specs.declared.events.Turn.{Turn}
 use Rattle.transitions.specs.declared.events.Turn.TheVariants as turn
 use Rattle.transitions.specs.declared.tasks.Phase.TheVariants.{Waiting}
-use Rattle.transitions.specs.declared.settings.Attributes.{Attributes}
-use Rattle.transitions.specs.declared.types.Level.{Level}
 use Rattle.transitions.proofs.RuleLaws.{rule_laws}
 use Rattle.level_control.specs.Answer.{Outcome, done, refused}
 use Rattle.level_control.specs.Causes.{time_refused, turn_tests, command_tests_of}

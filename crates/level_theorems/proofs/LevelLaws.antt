@@ -1,5 +1,4 @@
 -- Where the level and the attributes after an event come from, read off what becomes of these fields. Assumes nothing.
-use Prim.Native.Nat.{ℕ}
 use mathlib.Core.Bool.{Bool, true, false}
 use mathlib.Core.Path.{◌≡◌, refl, ap}
 use lib.Dec.{eqb}

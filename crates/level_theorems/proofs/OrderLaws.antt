@@ -1,6 +1,6 @@
 -- The letters of every event stand in document 01's orders. Assumes nothing.
 use Prim.Native.Nat.{ℕ, ◌+◌, ◌-◌, ◌*◌}
-use mathlib.Core.Bool.{Bool, true, false, cond, not, ◌&&◌, ◌||◌}
+use mathlib.Core.Bool.{Bool, true, false, cond, not, ◌&&◌}
 use mathlib.Core.Path.{◌≡◌, refl, sym, ◌∙◌}
 use mathlib.Core.List.{List, [], ◌∷◌, ◌++◌}
 use native.Mathlib.Omega.{arith}
@@ -44,7 +44,7 @@ use Rattle.event_theorems.specs.Course as course
 use Rattle.event_theorems.specs.Course.{Course, course_letter, towards}
 use Rattle.event_theorems.specs.Letters.{back_letters, couples, couples_first, couples_reached, leaves_min, letters, move_on_couples, on_reached, reached, reports_level, reports_time, wake_couples}
 use Rattle.event_theorems.proofs.AnswerLaws.{at_task}
-use Rattle.level_theorems.specs.Orders.{kinds_of, leaves, end, OneOf, this, later, orders, answer_orders, wake_orders, fade_orders, move_orders, on_orders, start_up_orders}
+use Rattle.level_theorems.specs.Orders.{kinds_of, OneOf, this, later, orders, answer_orders, wake_orders, fade_orders, move_orders, on_orders, start_up_orders}
 use Rattle.level_theorems.proofs.PatternLaws.{Fits, none, both, one, one_if, one_coupled}
 
 -- actions whose kinds stand in one of some orders
@@ -74,6 +74,7 @@ before k [] = []
 before k (p ∷ ps) = (k ∷ p) ∷ before k ps
 
 after_one : (k : ActionKind) (l x : List Action) (ps : List (List ActionKind)) → Fits (k ∷ []) l → OneOf ps (kinds_of x) → OneOf (before k ps) (kinds_of (l ++ x))
+after_one k l x [] h g = elim g [ ]
 after_one k l x (p ∷ ps) h (this g) = this (both l x h (record { kinds = g })).kinds
 after_one k l x (p ∷ ps) h (later g) = later (after_one k l x ps h g)
 
@@ -178,14 +179,14 @@ module _ (s : LevelControlState) (at : Micros) (on : Bool) where
           (back_letters (fade_back (device.Level v) b on_level after) (Known v) ++ course_letter (cond b course.AtRest (course.fade_on f p at)))
       by true Missing (Restore level) p = third (both _ _ (both _ _ (one_if (not (eqb v level)) P) (one L 0)) (nil []))
       by true Missing Stay p = silent
-      by true (Known level) after p = silent
-      by false on_level after (Asked since) =
+      by true (Known level) _ p = silent
+      by false on_level _ (Asked since) =
           let left = f.remaining.0 - f.period.0 in
           let u = course.until since (f.period.0 * 1000) in
           let n = next_level f.counter f.target f.transition_time in
           goes_on (leb (at.0 - since.0) (f.period.0 * 1000)) u n (task.Fade (course.fade_at f left f.counter (Waiting (micros u))))
           (task.Fade (course.fade_at f left n (Asked at)))
-      by false on_level after (Waiting until) = silent
+      by false on_level _ (Waiting until) = silent
   fade_answer_ordered f device.Missing = first (both _ _ (one_if (changed s.current_level Missing) P) (both _ _ (one_if (not f.scene_apply) S) (one E 15)))
   fade_answer_ordered f device.Failed = first (one E 15)
 

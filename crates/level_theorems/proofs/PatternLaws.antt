@@ -83,6 +83,7 @@ short [] = true
 short (p ∷ ps) = leb (length p) 7 && short ps
 
 kinds_at_most_seven : (ps : List (List ActionKind)) (k : List ActionKind) → OneOf ps k → short ps ≡ true → length k ≤ 7
+kinds_at_most_seven [] k h e = elim h [ ]
 kinds_at_most_seven (p ∷ ps) k (this h) e =
     let few = leb-true (length p) 7 (and_first (leb (length p) 7) (short ps) e) in
     let g = not_longer h in

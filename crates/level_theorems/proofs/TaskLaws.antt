@@ -5,7 +5,6 @@ use Rattle.units.specs.declared.Micros.{Micros}
 use Rattle.units.specs.declared.Millis.{Millis}
 use Rattle.transitions.specs.Fade.{wait_or_ask}
 use Rattle.transitions.specs.Tasks.{fade_last, fade_next, fade_asking, fade_waiting, level_to_restore, next_move, at_limit}
-use Rattle.transitions.specs.Types.{is_missing}
 use Rattle.transitions.specs.declared.commands.MoveRate.{MoveRate}
 use Rattle.transitions.specs.declared.commands.MoveRate.TheVariants.{Goes, InvalidCommand}
 use Rattle.transitions.specs.declared.events.DeviceAnswer.{DeviceAnswer}
@@ -14,7 +13,6 @@ use Rattle.transitions.specs.declared.events.MoveRequest.{MoveRequest}
 use Rattle.transitions.specs.declared.fade.Next.{Next}
 use Rattle.transitions.specs.declared.fade.Next.TheVariants.{Wait, Ask}
 use Rattle.transitions.specs.declared.tasks.AfterFade.{AfterFade}
-use Rattle.transitions.specs.declared.tasks.AfterFade.TheVariants.{Stay, Restore}
 use Rattle.transitions.specs.declared.tasks.Fade.{Fade}
 use Rattle.transitions.specs.declared.tasks.Move.{Move}
 use Rattle.transitions.specs.declared.tasks.MoveCourse.{MoveCourse}
@@ -31,7 +29,7 @@ use Rattle.level_control.specs.Reports.{told_level}
 use Rattle.level_control.specs.Fades.{restored, fade_ended_by, fade_ended, fade_then, fade_goes_on, fade_told, move_to_level_transition, fade_missing, device_failed, fade_answered, fade_woken}
 use Rattle.level_control.specs.Moves.{move_by, move_goes_on, move_at, begin_move, move_next, move_then, move_ends, move_transition, move_missing, move_answered, rate_by}
 use Rattle.level_control.specs.Rest.{stored_start_up, start_up_answered}
-use Rattle.level_control.specs.Run.{with_level as hasLevel}
+use Rattle.level_control.specs.Run.{with_level as has_level}
 use Rattle.level_theorems.specs.Covered.{SameFade}
 use Rattle.level_control.specs.declared.reports.Told.{Told}
 use Rattle.level_control.specs.declared.state.LevelControlState.{LevelControlState}
@@ -132,7 +130,7 @@ goes_on_goes R t f since at = by (fade_next f since at)
     by Ask = further f _ refl refl (asking f _ at) refl
 
 pub fade_answered_goes : (R : OnReaction → Type 0) (s : LevelControlState) (f : Fade) (since at : Micros) (on : Bool) (a : DeviceAnswer)
-    → Becomes R (task.Fade f) (hasLevel a) (fade_answered s f since at on a).state.task
+    → Becomes R (task.Fade f) (has_level a) (fade_answered s f since at on a).state.task
 unfolding fade_answered move_to_level_transition fade_missing device_failed with_task
 fade_answered_goes R s f since at on (device.Level level) =
     cond_goes R (task.Fade f) true (fade_last f) _ _ (ended_goes R (task.Fade f) true (fade_told s f at on level) f.after)

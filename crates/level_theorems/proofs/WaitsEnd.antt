@@ -30,7 +30,7 @@ use Rattle.level_control.specs.Reports.{write_remaining_time, set_level}
 use Rattle.level_control.specs.Fades.{fade_stored, fade_told, restored, fade_ended_by, fade_ended, fade_then, fade_goes_on, move_to_level_transition, fade_answered, fade_woken}
 use Rattle.level_control.specs.Causes.{latest}
 use Rattle.level_control.specs.Events.{fade_answered_in, answered_in, woken_in}
-use Rattle.level_control.specs.Run.{Run, accepted, is_onward, started, next as nextRun, play}
+use Rattle.level_control.specs.Run.{Run, accepted, is_onward, started, next as next_run, play}
 use Rattle.level_control.specs.Starts.{distance}
 use Rattle.level_theorems.specs.Replies.{Reply, wake_in, wake_of, replies, answers_from, in_time, delays}
 use Rattle.level_theorems.specs.FadeTheorems.{WaitsEnd}
@@ -98,11 +98,11 @@ wake_comes s f at = (refl, omega arith)
 -- one event of a run
 
 wake_run : (r : Run) (f : Fade) (at : Micros) (on : Bool) → r.state.task ≡ task.Fade f → accepted r.state (event at on kind.Wake) ≡ true
-    → Comes at (nextRun r (event at on kind.Wake)).state
+    → Comes at (next_run r (event at on kind.Wake)).state
 wake_run r f at on q ok =
     let s : LevelControlState = r.state in
     let w : Event = event at on kind.Wake in
-    let is : (nextRun r w).state ≡ (fade_woken (accept s at) f at).state =
+    let is : (next_run r w).state ≡ (fade_woken (accept s at) f at).state =
     next_state_is r w
     ∙ ap (λ (o : Outcome). o.state) (wake_is 0 0 1 (omega arith) (omega arith) s at on (accepted_zero s w ok))
     ∙ ap (λ (x : Task). (woken_in x (accept s at) at on).state) q in
@@ -110,12 +110,12 @@ wake_run r f at on q ok =
 
 answer_run : (r : Run) (f : Fade) (since at : Micros) (on : Bool) (v : ℕ) → r.state.task ≡ task.Fade f → f.phase ≡ Asked since → since.0 ≤ at.0
     → accepted r.state (event at on (kind.Answer (device.Level v))) ≡ true
-    → Comes at (nextRun r (event at on (kind.Answer (device.Level v)))).state
+    → Comes at (next_run r (event at on (kind.Answer (device.Level v)))).state
 unfolding fade_answered
 answer_run r f since at on v q p le ok =
     let s : LevelControlState = r.state in
     let e : Event = event at on (kind.Answer (device.Level v)) in
-    let is : (nextRun r e).state ≡ (move_to_level_transition (accept s at) f since at on v).state =
+    let is : (next_run r e).state ≡ (move_to_level_transition (accept s at) f since at on v).state =
     next_state_is r e
     ∙ ap (λ (o : Outcome). o.state) (answer_is 0 0 1 (omega arith) (omega arith) s at on v (accepted_zero s e ok))
     ∙ ap (λ (x : Task). (answered_in x (accept s at) (device.Level v) at on).state) q
@@ -147,13 +147,13 @@ module _ (c t T : ℕ) (pos : 1 ≤ T) (small : T ≤ 65535) where
           let soon : e.at.0 ≤ latest.0 = omega arith in
           let low : r.state.last_accepted.0 ≤ e.at.0 = omega arith in
           let ok : accepted r.state e ≡ true = answers_accepted r.state (device.Level p.level) e.at p.on (ap task_open q ∙ ap phase_open z) low soon in
-          let count : (nextRun r e).answers ≡ r.answers + 1 = next_answers r e ok in
+          let count : (next_run r e).answers ≡ r.answers + 1 = next_answers r e ok in
           let on : (not (accepted r.state e) || is_onward e.kind) ≡ true = or_second (not (accepted r.state e)) true refl in
-          let comes : Comes e.at (nextRun r e).state = answer_run r f since e.at p.on p.level q z (omega arith) ok in
-          let clock : (nextRun r e).state.last_accepted.0 ≡ e.at.0 = ap (λ (x : Micros). x.0) comes.0 in
+          let comes : Comes e.at (next_run r e).state = answer_run r f since e.at p.on p.level q z (omega arith) ok in
+          let clock : (next_run r e).state.last_accepted.0 ≡ e.at.0 = ap (λ (x : Micros). x.0) comes.0 in
           and_both _ _ (le-leb e.at.0 latest.0 soon)
-          (goal (nextRun r e) (keep c t T pos small r e on h)
-          (subst (λ (x : ℕ). Timed (nextRun r e).state.task x) (sym clock) comes.1) (omega arith) (omega arith))
+          (goal (next_run r e) (keep c t T pos small r e on h)
+          (subst (λ (x : ℕ). Timed (next_run r e).state.task x) (sym clock) comes.1) (omega arith) (omega arith))
       by (Waiting until) z o w = absurd (false≢true o)
   answer_soon p ps goal r h (task.Move m) q o i w left room = absurd i
   answer_soon p ps goal r h (task.OnReaction x) q o i w left room = absurd i
@@ -179,15 +179,15 @@ module _ (c t T : ℕ) (pos : 1 ≤ T) (small : T ≤ 65535) where
       let soon : at.0 ≤ latest.0 = omega arith in
       let ok : accepted r.state e ≡ true = fade_wakes_accepted r.state f until at p.on q z (omega arith) (omega arith) soon in
       let on : (not (accepted r.state e) || is_onward e.kind) ≡ true = or_second (not (accepted r.state e)) true refl in
-      let is_open : task_open (nextRun r e).state.task ≡ true =
+      let is_open : task_open (next_run r e).state.task ≡ true =
       ap (λ (s : LevelControlState). task_open s.task) (next_state_is r e) ∙ wake_opens r.state f at p.on q (accepted_zero r.state e ok) in
-      let count : (nextRun r e).answers ≡ r.answers + 0 = next_answers r e ok in
-      let comes : Comes at (nextRun r e).state = wake_run r f at p.on q ok in
-      let clock : (nextRun r e).state.last_accepted.0 ≡ at.0 = ap (λ (x : Micros). x.0) comes.0 in
-      let holds : Kept c t T pos small (nextRun r e) = keep c t T pos small r e on h in
+      let count : (next_run r e).answers ≡ r.answers + 0 = next_answers r e ok in
+      let comes : Comes at (next_run r e).state = wake_run r f at p.on q ok in
+      let clock : (next_run r e).state.last_accepted.0 ≡ at.0 = ap (λ (x : Micros). x.0) comes.0 in
+      let holds : Kept c t T pos small (next_run r e) = keep c t T pos small r e on h in
       and_both _ _ (le-leb at.0 latest.0 soon)
-      (answer_soon p ps goal (nextRun r e) holds (nextRun r e).state.task refl is_open holds
-      (subst (λ (x : ℕ). Timed (nextRun r e).state.task x) (sym clock) comes.1) (omega arith) (omega arith))
+      (answer_soon p ps goal (next_run r e) holds (next_run r e).state.task refl is_open holds
+      (subst (λ (x : ℕ). Timed (next_run r e).state.task x) (sym clock) comes.1) (omega arith) (omega arith))
 
   task_soon : (p : Reply) (ps : List Reply) → Goal ps → (r : Run) → Kept c t T pos small r
       → r.answers + suc (length ps) ≡ distance t c

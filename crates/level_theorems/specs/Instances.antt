@@ -7,7 +7,6 @@ use Rattle.transitions.specs.declared.events.Event.{Event}
 use Rattle.transitions.specs.declared.events.EventKind.{EventKind}
 use Rattle.transitions.specs.declared.events.EventKind.TheVariants as kind
 use Rattle.transitions.specs.declared.settings.Settings.{Settings}
-use Rattle.transitions.specs.declared.types.Level.{Level}
 use Rattle.transitions.specs.declared.types.Level.TheVariants.{Known, Missing}
 use Rattle.transitions.specs.declared.types.Mode.TheVariants.{Up}
 use Rattle.transitions.specs.declared.types.Rate.TheVariants as rate

@@ -2,7 +2,6 @@
 use Rattle.std.specs.Prelude.{ℕ, zero, suc, Bool, true, false, ◌&&◌, ◌||◌, ◌≡◌, List, [], ◌∷◌, ◌++◌, eqb, length}
 use Rattle.units.specs.Numbers.{apart}
 use Rattle.units.specs.Units.{tenths, millis, micros, tenths_up, tenths_down}
-use Rattle.units.specs.declared.Tenths.{Tenths}
 use Rattle.transitions.specs.RemainingTime.{remaining_time_due}
 use Rattle.transitions.specs.CurrentLevel.{second, current_level_due}
 use Rattle.transitions.specs.Commands.{step_level, step_time, step_time_number}

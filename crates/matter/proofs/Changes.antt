@@ -1,50 +1,41 @@
 -- What is named for a command, and what the document says: a change of CurrentLevel, or none. Assumes nothing.
-use Prim.Native.Nat.{ℕ, suc, ◌+◌, ◌-◌, ◌*◌, ◌/◌, ◌≤◌, ◌<◌, min, max}
-use mathlib.Core.Bool.{Bool, true, false, cond, not, ◌||◌, true≢false, false≢true}
-use mathlib.Core.Path.{◌≡◌, refl, sym, ap, subst, ◌∙◌}
-use mathlib.Core.Logic.{◌⊎◌, inl, inr}
-use mathlib.Core.List.{List, [], ◌∷◌}
+use Prim.Native.Nat.{ℕ, ◌*◌, ◌/◌, ◌≤◌, min, max}
+use mathlib.Core.Bool.{Bool, true, false, cond, true≢false, false≢true}
+use mathlib.Core.Path.{◌≡◌, refl, sym, ap, ◌∙◌}
 use native.Mathlib.Nat.{mul-div_cancel}
 use native.Mathlib.Omega.{arith}
-use borrow.Author.Tests.{lt-leb, le-ltb, ltb-true, ltb-false, eqb-true, eqb-false, ne_eqb}
-use lib.Dec.{leb, ltb, eqb}
-use Rattle.units.specs.Numbers.{apart}
-use Rattle.units.specs.declared.Micros.{Micros}
-use Rattle.units.specs.declared.Tenths.{Tenths}
+use borrow.Author.Tests.{lt-leb, ltb-true, ltb-false, eqb-true}
+use lib.Dec.{ltb, eqb}
 use Rattle.transitions.specs.Commands.{step_level}
-use Rattle.transitions.specs.Events.{event}
 use Rattle.transitions.specs.declared.events.Event.{Event}
 use Rattle.transitions.specs.declared.events.EventKind.{EventKind}
 use Rattle.transitions.specs.declared.events.EventKind.TheVariants as kind
-use Rattle.transitions.specs.declared.events.MoveToLevelRequest.{MoveToLevelRequest}
 use Rattle.transitions.specs.declared.events.StepRequest.{StepRequest}
 use Rattle.transitions.specs.declared.tasks.Fade.{Fade}
 use Rattle.transitions.specs.declared.tasks.Task.TheVariants as task
 use Rattle.transitions.specs.declared.types.Level.{Level}
-use Rattle.transitions.specs.declared.types.Level.TheVariants.{Known, Missing}
+use Rattle.transitions.specs.declared.types.Level.TheVariants.{Known}
 use Rattle.transitions.specs.declared.types.Mode.{Mode}
 use Rattle.transitions.specs.declared.types.Mode.TheVariants.{Up, Down}
 use Rattle.transitions.specs.declared.types.Time.{Time}
 use Rattle.transitions.specs.declared.types.Time.TheVariants as time
-use Rattle.transitions.specs.Matter as rule
 use Rattle.transitions.proofs.MatterLaws.{matter_agrees}
-use Rattle.level_control.specs.Answer.{Outcome}
 use Rattle.level_control.specs.Events.{event_of}
-use Rattle.level_control.specs.Run.{accepted, asks, is_onward}
+use Rattle.level_control.specs.Run.{accepted, is_onward}
 use Rattle.level_control.specs.Starts as starts
 use Rattle.level_control.specs.Starts.{Start, NoFade, Fades, start_from, when, target, given_or, step_in, distance, start_of}
 use Rattle.level_control.specs.Targets.{stepped_level}
 use Rattle.level_control.specs.declared.state.LevelControlState.{LevelControlState}
 use Rattle.level_control.proofs.EveryFade.{accepted_zero}
-use Rattle.level_control.proofs.StartLaws.{no_fade, direct_starts, step_is, on_is}
+use Rattle.level_control.proofs.StartLaws.{no_fade, direct_starts, step_is}
 use Rattle.level_theorems.specs.Covered as covered
 use Rattle.level_theorems.specs.Covered.{Begins, Covered}
 use Rattle.level_theorems.specs.Demand1 as claim
 use Rattle.level_theorems.specs.Demand1.{LevelFrom}
 use Rattle.level_theorems.proofs.Demand1Laws.{demand_1}
 use Rattle.level_theorems.proofs.EveryFadeCovered.{begins, every_fade_covered}
-use Rattle.matter.specs.Matter.{Effect, Invalid, None, Goes, goes, within, or_else, move_to_level, step_to, reduced, step, off}
-use Rattle.matter.specs.Agreement.{Does, passes}
+use Rattle.matter.specs.Matter.{None, Goes, goes, within, or_else, step_to, reduced}
+use Rattle.matter.specs.Agreement.{Does}
 
 -- An event that names no fade: the level stays, and no fade starts.
 

@@ -1,11 +1,11 @@
 -- The agreement with the Matter document in whole commands. Assumes nothing.
 use Prim.Native.Nat.{ℕ, ◌≤◌}
-use mathlib.Core.Bool.{Bool, true, false, cond, not, ◌||◌}
+use mathlib.Core.Bool.{Bool, true, false, cond, ◌||◌}
 use mathlib.Core.Path.{◌≡◌, refl, sym, ap, subst, ◌∙◌}
 use mathlib.Core.List.{List, [], ◌∷◌}
 use native.Mathlib.Omega.{arith}
 use borrow.Author.Tests.{lt-leb, le-ltb, ne_eqb}
-use lib.Dec.{leb, ltb, eqb}
+use lib.Dec.{eqb}
 use Rattle.units.specs.Numbers.{apart}
 use Rattle.units.specs.declared.Tenths.{Tenths}
 use Rattle.transitions.specs.Events.{event}
@@ -20,7 +20,7 @@ use Rattle.transitions.specs.declared.types.Level.TheVariants.{Known, Missing}
 use Rattle.transitions.specs.declared.types.Time.{Time}
 use Rattle.transitions.specs.declared.types.Time.TheVariants as time
 use Rattle.level_control.specs.Answer.{Outcome}
-use Rattle.level_control.specs.Events.{event_of, number_of}
+use Rattle.level_control.specs.Events.{event_of}
 use Rattle.level_control.specs.Run.{accepted, asks, all_refused, state_after}
 use Rattle.level_control.specs.Starts as starts
 use Rattle.level_control.specs.Starts.{Start, NoFade, Fades, start_from, when, target, given_or, step_in, distance, start_of, on_start_at, on_start}

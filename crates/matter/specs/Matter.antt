@@ -4,7 +4,7 @@
 --   [told]     told by document 01 or by a list of known disagreements
 --   [general]  general knowledge, not checked against the text
 -- docs/DIFFERENCES.md has a row for each disagreement.
-use Rattle.std.specs.Prelude.{ℕ, ◌-◌, ◌*◌, ◌/◌, Bool, true, false, cond, ltb, eqb}
+use Rattle.std.specs.Prelude.{ℕ, ◌-◌, ◌*◌, ◌/◌, Bool, cond, ltb, eqb}
 use Rattle.units.specs.Numbers.{apart}
 use Rattle.transitions.specs.Matter.{increased, decreased}
 use Rattle.transitions.specs.declared.types.Level.{Level}

@@ -22,7 +22,7 @@ use Rattle.level_control.specs.Events.{event_of}
 use Rattle.level_control.specs.Run.{state_after}
 use Rattle.level_control.specs.State.{new_state}
 use Rattle.level_control.specs.declared.state.LevelControlState.{LevelControlState}
-use Rattle.matter.specs.Matter.{Effect, Invalid, Goes, None, move_to_level, step, after_on, part_of_time, start_up, remaining_at_start}
+use Rattle.matter.specs.Matter.{Invalid, Goes, move_to_level, step, after_on, part_of_time, start_up, remaining_at_start}
 
 -- The plays: settings, with times missing and options 0, and events.
 
