@@ -19,6 +19,10 @@ use Rattle.sheet.specs.Play.{fitted, length_ok}
 use Rattle.sheet.specs.declared.lines.Played.TheVariants.{Text, Refused}
 use Rattle.sheet.specs.declared.lines.Refusal.TheVariants.{TextTooLong}
 
+-- the lines that are left
+abbrev pub rest : List ℕ → LevelControlState → ℕ → ℕ → ℕ → List ℕ
+rest events state from index left = lines_from index (outcomes_of state (records_of left (drop from events)))
+
 lines_suc : (k index : ℕ) (s : LevelControlState) (l : List ℕ)
     → lines_from index (outcomes_of s (records_of (suc k) l))
     ≡ outcome_line index (record_outcome s (take 20 l)) ++ lines_from (index + 1) (outcomes_of (record_outcome s (take 20 l)).state (records_of k (drop 20 l)))

@@ -19,6 +19,7 @@ pub fn number(why: Refusal) -> u64
 }
 
 // The text, or `0 `, the number of the refusal and a line feed, at the front of out; and how long it is.
+#[tactic(auto, using(text::proofs::WriteLaws::writes), unfolding(crate::specs::Play::key_of, crate::specs::Play::shown, crate::specs::Play::refusal_text))]
 pub fn key_sheet(records: &[u8], out: &mut [u8]) -> usize
     ensures { (result, out.new) ≡ key_of records.now out.old }
 {

@@ -8,6 +8,7 @@ pub mod play;
 ghost use Rattle.sheet.specs.Laws.{Laws};
 
 // The sheet in document 01's own words: a theorem, and nothing to run.
+#[tactic(auto, using(crate::proofs::LawsHold::sheet_laws))]
 pub fn sheet_laws_hold()
     ensures { Laws }
 {}

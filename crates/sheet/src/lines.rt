@@ -27,6 +27,7 @@ pub enum Played {
 }
 
 // A record's event in a state; a damaged record is refused with number 1.
+#[tactic(auto, unfolding(crate::specs::Lines::record_outcome))]
 pub fn record_event(state: LevelControlState, bytes: &[u8]) -> Effect
     ensures { outcome_of result ≡ record_outcome state bytes.now }
 {
@@ -37,6 +38,7 @@ pub fn record_event(state: LevelControlState, bytes: &[u8]) -> Effect
 }
 
 // The line of what an event gave, where it has room; and the position past it.
+#[tactic(auto, unfolding(level_control::specs::Answer::outcome_of))]
 pub fn put_effect(out: &mut [u8], at: usize, index: u64, effect: Effect) -> usize
     ensures out_after { (result, out.new) ≡ put_whole out.old at (outcome_line index (outcome_of effect)) }
     ensures upper_bound { result ≤ at + 189 }
@@ -78,6 +80,7 @@ fn sure_room(lines: usize, end: usize) -> usize
 }
 
 // Gives the position past all lines, and writes them where all of them have room; where not, out may hold some of them.
+#[tactic(auto, using(crate::proofs::SheetLaws::none_left), unfolding(crate::specs::Lines::text_of))]
 fn put_each(events: &[u8], start: LevelControlState, out: &mut [u8]) -> usize
     ensures value { result ≡ min (length (text_of start events.now)) most }
     ensures wrote { Room out.old 0 (text_of start events.now) → Wrote out.old 0 (text_of start events.now) out.new result }

@@ -7,6 +7,7 @@ use level_control::state::LevelControlState;
 use records::settings::{SettingsRead, read_settings};
 
 // 20 to 5,120 bytes in twenties.
+#[tactic(auto, unfolding(crate::specs::Play::length_ok))]
 pub fn length_ok(n: usize) -> bool
     ensures { result ≡ length_ok n }
 {
@@ -20,6 +21,7 @@ pub fn length_ok(n: usize) -> bool
 }
 
 // The sheet at the front of out, or a refusal and out as it was.
+#[tactic(auto, using(crate::proofs::SheetLaws::at_least, crate::proofs::SheetLaws::at_most, crate::proofs::SheetLaws::tail_is), unfolding(crate::specs::Play::play_of, crate::specs::Play::play_with))]
 pub fn play(records: &[u8], out: &mut [u8]) -> Played
     ensures out_after { (result, out.new) ≡ play_of records.now out.old }
     ensures result_bound { written result ≤ 48195 }
