@@ -1,5 +1,5 @@
 -- The sheet in document 01's own words: laws for every list of bytes, by which the definitions of this folder can be believed.
-use Rattle.std.specs.Prelude.{ℕ, ◌+◌, ◌/◌, ◌%◌, ◌≤◌, ◌<◌, true, false, ◌≡◌, ◌↔◌, ◌⊎◌, List, [], ◌∷◌, ◌++◌, ℤ, pos, negsuc, length, take, drop}
+use Rattle.std.specs.Prelude.{ℕ, ◌+◌, ◌/◌, ◌%◌, ◌≤◌, ◌<◌, true, false, ◌≡◌, ◌↔◌, ◌⊎◌, List, [], ◌∷◌, ◌++◌, pos, negsuc, length, take, drop}
 use Rattle.text.specs.Text.{ascii, digits}
 use Rattle.records.specs.Settings.{settings_read, settings_read_number}
 use Rattle.records.specs.declared.settings.SettingsRead.TheVariants as read

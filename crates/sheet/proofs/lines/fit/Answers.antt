@@ -1,5 +1,4 @@
-use Rattle.std.proofs.Common.{◌<◌, ◌≤◌, ◌∙◌, ap, length, arith}
-use Rattle.text.specs.Text.{most}
+use Rattle.std.proofs.Common.{◌≤◌, ◌∙◌, ap, arith}
 use Rattle.text.proofs.WriteLaws.{by_test}
 use Rattle.sheet.specs.Play.{fitted}
 use Rattle.sheet.proofs.SheetLaws.{fit_yes, fit_no, length_back}
