@@ -26,7 +26,7 @@ refused s n = record { number = n; state = s; actions = [] }
 unfoldable pub outcome_of : Effect → Outcome
 outcome_of e = record { number = e.number; state = e.state; actions = actions_of e.actions }
 
--- "the action list: an array with its count". A free slot holds X with value 0. The array has the first seven: no event has more (`at-most-seven`)
+-- "the action list: an array with its count". A free slot holds X with value 0. The array has the first seven: no event has more (`at_most_seven`)
 unfoldable pub packed : Outcome → Answer
 packed o = record {
   number = o.number;

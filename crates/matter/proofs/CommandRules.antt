@@ -1,4 +1,4 @@
--- The end of off, start_up, Stop and Move, and the Matter document. Assumes nothing.
+-- The end of off, start-up, Stop and Move, and the Matter document. Assumes nothing.
 use Prim.Native.Nat.{ℕ, ◌+◌, ◌-◌, ◌≤◌}
 use mathlib.Core.Bool.{Bool, true, false, cond, not, true≢false}
 use mathlib.Core.Path.{◌≡◌, refl, sym, ap, subst, ◌∙◌}
