@@ -1,15 +1,17 @@
 // Reads records from standard input and prints the sheet, or `0 `, the number of the refusal and a line feed.
 #![tactic(auto)]
 
-use libc::{STDIN_FILENO, STDOUT_FILENO};
 use sheet::key::key_sheet;
+use std::io;
+use std::io::{Read, Write};
 use text::front;
 
-fn main() {
+fn main(rt: HostRuntime) -> io::Result<()> {
+    let mut records = Vec::new(rt.alloc());
     // One byte more than a play may have, so that a longer input is seen to be too long.
-    let mut records = [0u8; 5121];
-    let n = io::read_full(STDIN_FILENO, &mut records);
-    let mut out = io::large_buffer();
-    let k = front(key_sheet(&records[..n], &mut out), &out);
-    io::write_all(STDOUT_FILENO, &out[..k]);
+    rt.reader().take(5121).read_to_end(&mut records)?;
+    // Room for every sheet.
+    let mut sheet = [0; 48_195];
+    let length = front(key_sheet(&records, &mut sheet), &sheet);
+    io::writer(&rt).write_all(&sheet[..length])
 }

@@ -3,112 +3,82 @@
 use handler::LevelControlHandler;
 use level_control::answer::{Answer, Effect};
 use level_control::state::LevelControlState;
-use libc::STDOUT_FILENO;
 use records::events::{EventRead, read_event};
 use records::settings::{SettingsRead, read_settings};
 use sheet::key::key_sheet;
 use sheet::play::length_ok;
+use std::io;
+use std::io::Write;
 use text::front;
 use transitions::events::{Action, ActionKind, Event, EventKind, SceneRequest};
 use transitions::types::{Level, Rate, Time};
 
-fn print_number(n: u64) {
-    io::write_all(STDOUT_FILENO, b" ");
-    io::print_decimal(STDOUT_FILENO, n);
-}
-
-fn print_word(word: &[u8]) {
-    io::write_all(STDOUT_FILENO, word);
-}
-
-fn print_valued(letter: &[u8], value: u64) {
-    io::write_all(STDOUT_FILENO, letter);
-    io::print_decimal(STDOUT_FILENO, value);
-}
-
-fn print_missing() {
-    io::write_all(STDOUT_FILENO, b" -");
-}
-
-fn print_level(level: Level) {
+fn print_level(out: &mut impl Write, level: Level) -> io::Result<()> {
     match level {
-        Level::Known(level) => print_number(level as u64),
-        Level::Missing => print_missing(),
+        Level::Known(level) => write!(out, " {level}"),
+        Level::Missing => write!(out, " -"),
     }
 }
 
-fn print_time(time: Time) {
+fn print_time(out: &mut impl Write, time: Time) -> io::Result<()> {
     match time {
-        Time::Known(time) => print_number(time.0 as u64),
-        Time::Missing => print_missing(),
+        Time::Known(time) => write!(out, " {}", time.0),
+        Time::Missing => write!(out, " -"),
     }
 }
 
-fn print_rate(rate: Rate) {
+fn print_rate(out: &mut impl Write, rate: Rate) -> io::Result<()> {
     match rate {
-        Rate::Known(rate) => print_number(rate as u64),
-        Rate::Missing => print_missing(),
+        Rate::Known(rate) => write!(out, " {rate}"),
+        Rate::Missing => write!(out, " -"),
     }
 }
 
-fn print_state(state: LevelControlState) {
+fn print_state(out: &mut impl Write, state: LevelControlState) -> io::Result<()> {
     let attributes = state.attributes;
-    let on_level = attributes.on_level;
-    let on_time = attributes.on_transition_time;
-    let off_time = attributes.off_transition_time;
-    let default_move_rate = attributes.default_move_rate;
-    let start_up = attributes.start_up_current_level;
-    let previous = state.previous_current_level;
-    io::write_all(STDOUT_FILENO, b"  =");
-    print_level(on_level);
-    print_number(attributes.options.0 as u64);
-    print_number(attributes.on_off_transition_time.0 as u64);
-    print_time(on_time);
-    print_time(off_time);
-    print_rate(default_move_rate);
-    print_level(start_up);
-    print_number(state.last_current_level_notification.0);
-    print_level(previous);
-    io::write_all(STDOUT_FILENO, b"\n");
+    write!(out, "  =")?;
+    print_level(out, attributes.on_level)?;
+    write!(out, " {}", attributes.options.0)?;
+    write!(out, " {}", attributes.on_off_transition_time.0)?;
+    print_time(out, attributes.on_transition_time)?;
+    print_time(out, attributes.off_transition_time)?;
+    print_rate(out, attributes.default_move_rate)?;
+    print_level(out, attributes.start_up_current_level)?;
+    write!(out, " {}", state.last_current_level_notification.0)?;
+    print_level(out, state.previous_current_level)?;
+    writeln!(out)
 }
 
-fn print_action(action: Action) {
-    let kind = action.kind;
-    match kind {
-        ActionKind::D => print_valued(b" D", action.value),
-        ActionKind::P => print_word(b" P"),
-        ActionKind::S => print_word(b" S"),
-        ActionKind::C => print_valued(b" C", action.value),
-        ActionKind::L => print_word(b" L"),
-        ActionKind::R => print_word(b" R"),
-        ActionKind::W => print_valued(b" W", action.value),
-        ActionKind::E => print_valued(b" E", action.value),
-        ActionKind::K => print_word(b" K"),
-        ActionKind::X => print_word(b" X"),
+fn print_action(out: &mut impl Write, action: Action) -> io::Result<()> {
+    match action.kind {
+        ActionKind::D => write!(out, " D{}", action.value),
+        ActionKind::P => write!(out, " P"),
+        ActionKind::S => write!(out, " S"),
+        ActionKind::C => write!(out, " C{}", action.value),
+        ActionKind::L => write!(out, " L"),
+        ActionKind::R => write!(out, " R"),
+        ActionKind::W => write!(out, " W{}", action.value),
+        ActionKind::E => write!(out, " E{}", action.value),
+        ActionKind::K => write!(out, " K"),
+        ActionKind::X => write!(out, " X"),
     }
 }
 
-fn print_actions(actions: [Action; 7], count: usize) {
-    let mut i = 0;
-    while i < 7 {
-        if i < count {
-            print_action(actions[i]);
-        }
-        i += 1;
+fn print_actions(out: &mut impl Write, actions: [Action; 7], count: usize) -> io::Result<()> {
+    for action in actions.iter().take(count) {
+        print_action(out, *action)?;
     }
+    Ok(())
 }
 
-fn print_answer(index: u64, answer: Answer) {
+fn print_answer(out: &mut impl Write, index: u64, answer: Answer) -> io::Result<()> {
     let state = answer.state;
-    let level = state.current_level;
-    let actions = answer.actions;
-    io::print_decimal(STDOUT_FILENO, index);
-    print_number(answer.number as u64);
-    print_level(level);
-    print_number(state.remaining_time.0 as u64);
-    print_actions(actions, answer.count);
-    io::write_all(STDOUT_FILENO, b"\n");
-    print_state(state);
+    write!(out, "{index} {}", answer.number)?;
+    print_level(out, state.current_level)?;
+    write!(out, " {}", state.remaining_time.0)?;
+    print_actions(out, answer.actions, answer.count)?;
+    writeln!(out)?;
+    print_state(out, state)
 }
 
 // The level stands among pairs that do not decide: of another attribute, without a value, and behind the first.
@@ -160,38 +130,28 @@ fn record_answer(state: LevelControlState, bytes: &[u8]) -> Answer {
     }
 }
 
-fn print_events(events: &[u8], start: LevelControlState) {
+fn print_events(out: &mut impl Write, events: &[u8], start: LevelControlState) -> io::Result<()> {
     let mut state = start;
-    let mut from = 0;
-    let mut index = 1;
-    let mut left = events.len() / 20;
-    while 0 < left {
-        let answer = record_answer(state, &events[from..from + 20]);
-        print_answer(index, answer);
+    for (index, record) in (1..).zip(events.chunks_exact(20)) {
+        let answer = record_answer(state, record);
+        print_answer(out, index, answer)?;
         state = answer.state;
-        from += 20;
-        index += 1;
-        left -= 1;
     }
+    Ok(())
 }
 
-fn print_refusal(records: &[u8]) {
-    let mut out = io::buffer();
-    let k = front(key_sheet(records, &mut out), &out);
-    io::write_all(STDOUT_FILENO, &out[..k]);
+fn print_refusal(out: &mut impl Write, records: &[u8]) -> io::Result<()> {
+    let mut room = [0; 4096];
+    let length = front(key_sheet(records, &mut room), &room);
+    out.write_all(&room[..length])
 }
 
-pub(crate) fn print_states(records: &[u8]) {
-    if length_ok(records.len()) {
-        return match read_settings(&records[..20]) {
-            SettingsRead::Settings(settings) => {
-                print_events(&records[20..], LevelControlState::new(settings))
-            }
-            SettingsRead::RecordWrong => print_refusal(records),
-            SettingsRead::MaxAbove254 => print_refusal(records),
-            SettingsRead::MinAboveMax => print_refusal(records),
-            SettingsRead::LightingMin0 => print_refusal(records),
-        };
+pub(crate) fn print_states(out: &mut impl Write, records: &[u8]) -> io::Result<()> {
+    if length_ok(records.len())
+        && let Some((first, events)) = records.split_at_checked(20)
+        && let SettingsRead::Settings(settings) = read_settings(first)
+    {
+        return print_events(out, events, LevelControlState::new(settings));
     }
-    print_refusal(records)
+    print_refusal(out, records)
 }
