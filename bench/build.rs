@@ -1,4 +1,4 @@
-//! Links the archive that `rt staticlib sheet` wrote.
+//! Links the archive that `tests/build sheet_c` wrote.
 use std::path::PathBuf;
 
 fn main() {

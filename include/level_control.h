@@ -16,7 +16,7 @@
  *     int32_t n = level_control_play(records, length, out, sizeof out);
  *     if (n < 0) report(-n); else show(out, (size_t)n);
  *
- * `rt staticlib sheet` writes the archive to link, target/staticlib/libsheet.a.
+ * `tests/build sheet_c` writes the archive to link, target/staticlib/libsheet.a.
  */
 #ifndef LEVEL_CONTROL_H
 #define LEVEL_CONTROL_H
