@@ -7,6 +7,7 @@ from plays.named import NAMED, STATE
 from plays.records import KINDS, describe, pack_list, records_of, unpack_list
 
 FOLDER = bench.ROOT / 'recorded'
+INPUT = bench.ROOT / '../crates/replay/stdin'     # the same list again
 SEED = 1
 RANDOM = 1500       # random plays to choose from
 LONG = 60           # the first of them are taken as they are,
