@@ -1,11 +1,10 @@
 -- The theorems over records. Assumes nothing.
 use Prim.Native.Nat.{ℕ, zero, suc, ◌/◌, ◌≤◌, zero-le}
-use mathlib.Core.Bool.{Bool, true}
+use mathlib.Core.Bool.{true}
 use mathlib.Core.Path.{◌≡◌, refl, sym, ap, subst, ◌∙◌}
-use mathlib.Core.List.{List, [], ◌∷◌, ◌++◌}
+use mathlib.Core.List.{List, [], ◌∷◌}
 use native.Mathlib.Omega.{arith}
 use lib.ListN.{length, take, drop}
-use Rattle.units.specs.declared.Micros.{Micros}
 use Rattle.transitions.specs.Events.{event}
 use Rattle.transitions.specs.declared.events.Event.{Event}
 use Rattle.transitions.specs.declared.events.EventKind.TheVariants as kind
@@ -16,12 +15,10 @@ use Rattle.records.specs.Written.{event_record, EventFits}
 use Rattle.records.specs.declared.events.EventRead.{EventRead}
 use Rattle.records.specs.declared.events.EventRead.TheVariants as read
 use Rattle.records.proofs.WrittenLaws.{event_written}
-use Rattle.level_control.specs.Answer.{Outcome, refused}
+use Rattle.level_control.specs.Answer.{Outcome}
 use Rattle.level_control.specs.Demand3.{Shown}
-use Rattle.level_control.specs.Events.{event_of}
 use Rattle.level_control.specs.Run as run
 use Rattle.level_control.specs.Run.{Run, Nothing, started, accepted, play}
-use Rattle.level_control.specs.Starts.{distance}
 use Rattle.level_control.specs.State.{new_state}
 use Rattle.level_control.specs.declared.state.LevelControlState.{LevelControlState}
 use Rattle.level_control.proofs.EveryFade.{every_fade}
@@ -33,8 +30,8 @@ use Rattle.level_theorems.proofs.WaitsEnd.{waits_end}
 use Rattle.sheet.specs.Lines as lines
 use Rattle.sheet.specs.Lines.{read_outcome, record_outcome, outcomes_of, lines_from, text_of}
 use Rattle.sheet.proofs.LawsHold.{sheet_laws}
-use Rattle.record_theorems.specs.RecordPlays.{Record, bytes_of, answers_of, answer_to, state_after, accepts, seen, only_onward, StartsAt}
-use Rattle.record_theorems.specs.RecordTheorems.{RecordsOf, Demand1Recorded, later, EveryFadeRecorded, AnswerRecordsAccepted, WakeRecordsAccepted, EndsRecorded, RecordsComeToRest, RecordedWaitsEnd}
+use Rattle.record_theorems.specs.RecordPlays.{Record, bytes_of, answers_of, answer_to, accepts, seen, only_onward, StartsAt}
+use Rattle.record_theorems.specs.RecordTheorems.{RecordsOf, Demand1Recorded, later, EveryFadeRecorded, AnswerRecordsAccepted, WakeRecordsAccepted, RecordsComeToRest, RecordedWaitsEnd}
 use Rattle.record_theorems.proofs.RecordRuns.{events_of, seen_is_play, onward_is, later_is, answer_is, start_state, starts_is}
 use Rattle.record_theorems.proofs.StartFits.{recorded_fits}
 use Rattle.record_theorems.proofs.WrittenRecords.{all_take, all_drop, Written, write_answers}

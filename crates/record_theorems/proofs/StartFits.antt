@@ -2,7 +2,7 @@
 use Prim.Native.Nat.{ℕ, ◌*◌, ◌/◌, ◌^◌, ◌≤◌, ◌<◌, min}
 use mathlib.Core.Bool.{Bool, true, false, not, ◌||◌, true≢false}
 use mathlib.Core.Path.{◌≡◌, refl, sym, ap, subst, ◌∙◌}
-use mathlib.Core.List.{List, [], ◌∷◌, ◌++◌}
+use mathlib.Core.List.{List, [], ◌∷◌}
 use native.Mathlib.Nat.{div-le_self, le_trans}
 use native.Mathlib.Omega.{arith}
 use borrow.Author.Tests.{ltb-false}
@@ -22,7 +22,7 @@ use Rattle.transitions.specs.declared.types.Level.TheVariants.{Known, Missing}
 use Rattle.transitions.specs.declared.types.Time.{Time}
 use Rattle.transitions.specs.declared.types.Time.TheVariants as time
 use Rattle.records.specs.Events.{event_read}
-use Rattle.records.specs.Written.{TimeFits, KindFits, EventFits}
+use Rattle.records.specs.Written.{TimeFits, KindFits}
 use Rattle.records.specs.declared.events.EventRead.{EventRead}
 use Rattle.records.specs.declared.events.EventRead.TheVariants as read
 use Rattle.records.proofs.FitLaws.{event_fits, settings_fit}
@@ -37,7 +37,7 @@ use Rattle.level_control.specs.declared.state.LevelControlState.{LevelControlSta
 use Rattle.level_control.proofs.EventLaws.{command_passes}
 use Rattle.level_control.proofs.EveryFade.{accepted_zero}
 use Rattle.level_control.proofs.StartLaws.{no_fade, when_fades, from_fades, continues_is, step_is}
-use Rattle.level_theorems.specs.Demand1.{AttributesFrom, unchanged, by_set_on_level, by_set_default_move_rate, by_set_start_up, put_back}
+use Rattle.level_theorems.specs.Demand1.{AttributesFrom, unchanged, by_set_on_level, by_set_default_move_rate, by_set_start_up, by_factory_reset}
 use Rattle.level_theorems.proofs.Demand1Laws.{demand_1}
 use Rattle.sheet.specs.Lines.{read_outcome, record_outcome}
 use Rattle.record_theorems.specs.RecordPlays.{Record, answer_to, state_after, StartsAt, directly, after_on, accepts}
@@ -60,7 +60,7 @@ from_fits s k _ h unchanged = h.now
 from_fits s k _ h (by_set_on_level e) = record { common = h.now.common; on = h.now.on; off = h.now.off }
 from_fits s k _ h (by_set_default_move_rate e) = record { common = h.now.common; on = h.now.on; off = h.now.off }
 from_fits s k _ h (by_set_start_up e) = record { common = h.now.common; on = h.now.on; off = h.now.off }
-from_fits s k _ h (put_back e) = h.configured
+from_fits s k _ h (by_factory_reset e) = h.configured
 
 event_keeps_fit : (s : LevelControlState) (e : Event) → StateFits s → StateFits (event_of s e).state
 event_keeps_fit s e h = record {

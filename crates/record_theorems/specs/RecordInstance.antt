@@ -1,11 +1,11 @@
 -- The theorems over records are not empty: document 01's sheet, as bytes, with a damaged record among them.
-use Rattle.std.specs.Prelude.{ℕ, true, ◌≡◌, List, [], ◌∷◌, ◌++◌, length}
+use Rattle.std.specs.Prelude.{ℕ, true, ◌≡◌, List, [], ◌∷◌}
 use Rattle.transitions.specs.declared.settings.Settings.{Settings}
 use Rattle.level_control.specs.Answer.{Outcome}
 use Rattle.level_control.specs.Demand3.{Shown}
 use Rattle.level_control.specs.Run.{started}
 use Rattle.level_control.specs.State.{new_state}
-use Rattle.record_theorems.specs.RecordPlays.{Record, bytes_of, answers_of, seen, only_onward, StartsAt}
+use Rattle.record_theorems.specs.RecordPlays.{Record, bytes_of, seen, only_onward, StartsAt}
 use Rattle.record_theorems.specs.RecordTheorems.{Configured, later}
 
 -- settings: MIN 1, MAX 254, uncoupled, level 10

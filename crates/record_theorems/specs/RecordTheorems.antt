@@ -16,7 +16,7 @@ use Rattle.records.specs.declared.settings.SettingsRead.TheVariants as settings
 use Rattle.level_control.specs.Answer.{Outcome, refused}
 use Rattle.level_control.specs.Causes.{latest}
 use Rattle.level_control.specs.Demand3.{Shown}
-use Rattle.level_control.specs.Run.{Run, Nothing, started}
+use Rattle.level_control.specs.Run.{Nothing, started}
 use Rattle.level_control.specs.Starts.{distance}
 use Rattle.level_control.specs.State.{new_state}
 use Rattle.level_control.specs.declared.state.LevelControlState.{LevelControlState}
@@ -27,7 +27,7 @@ use Rattle.sheet.specs.Lines.{lines_from, text_of}
 use Rattle.sheet.specs.Play.{play_of}
 use Rattle.sheet.specs.declared.lines.Played.TheVariants.{Refused}
 use Rattle.sheet.specs.declared.lines.Refusal.{Refusal}
-use Rattle.record_theorems.specs.RecordPlays.{Record, bytes_of, answers_of, answer_to, state_after, accepts, seen, only_onward, StartsAt}
+use Rattle.record_theorems.specs.RecordPlays.{Record, bytes_of, answers_of, answer_to, accepts, seen, only_onward, StartsAt}
 
 -- settings that are read from a record
 pub record Configured (x : Settings) : Type 0 where

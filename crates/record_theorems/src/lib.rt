@@ -18,13 +18,11 @@ pub fn every_recorded_fade_holds()
 {}
 
 // Progress over records: with a request open, the record of an answer in time is accepted.
-#[tactic(auto, using(crate::proofs::RecordsHold::answer_records_accepted))]
 pub fn answer_records_are_accepted()
     ensures { AnswerRecordsAccepted }
 {}
 
 // Progress over records: while a fade or a move waits, the record of a wake that is due is accepted.
-#[tactic(auto, using(crate::proofs::RecordsHold::wake_records_accepted))]
 pub fn wake_records_are_accepted()
     ensures { WakeRecordsAccepted }
 {}

@@ -1,0 +1,5 @@
+use Rattle.record_theorems.proofs.RecordsHold.{wake_records_accepted}
+use Rattle.record_theorems.proofs.wake_records_are_accepted.Goals as goal
+
+pub returns : goal.returns
+returns c = wake_records_accepted
