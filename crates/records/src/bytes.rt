@@ -1,5 +1,5 @@
 // The bytes of a record. Past its end they read as 0, so that every read is total.
-#![tactic(auto, unfolding(crate::specs::Bytes::has_marks, crate::specs::Bytes::is_flag, crate::specs::Bytes::is_set, crate::specs::Bytes::zeros_from))]
+#![tactic(auto, unfolding(crate::specs::Bytes::has_marks, crate::specs::Bytes::is_flag, crate::specs::Bytes::is_set))]
 
 ghost use Rattle.std.specs.Prelude.{◌≡◌};
 ghost use Rattle.records.specs.Bytes.{byte_at, has_marks, is_flag, is_set, le16, le32, le64, zeros_from};

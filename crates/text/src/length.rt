@@ -72,7 +72,7 @@ fn if_length(test: bool) -> usize
     0
 }
 
-#[tactic(auto, using(crate::proofs::LineLaws::c_length), unfolding(crate::specs::Line::actions_text, crate::specs::Line::action_text))]
+#[tactic(auto, using(crate::proofs::LineLaws::c_length), unfolding(crate::specs::Line::actions_text))]
 fn coupling_length(coupling: Coupling) -> usize
     ensures value { result ≡ length (actions_text (act_coupled coupling)) }
     ensures upper_bound { result ≤ 22 }
@@ -111,7 +111,7 @@ fn last_length(last: Last) -> usize
     }
 }
 
-#[tactic(auto, using(crate::proofs::DigitLaws::digits_one, crate::proofs::DigitLaws::digits_some, crate::proofs::DigitLaws::digits_shorter, crate::proofs::DigitLaws::digits_at_most))]
+#[tactic(auto, using(crate::proofs::DigitLaws::digits_one, crate::proofs::DigitLaws::digits_shorter, crate::proofs::DigitLaws::digits_at_most))]
 fn digits_length(x: u64) -> usize
     ensures value { result ≡ length (digits x) }
     ensures upper_bound { result ≤ 20 }

@@ -22,7 +22,7 @@ pub fn put(out: &mut [u8], at: usize, b: u8) -> usize
 
 // A number in decimal, with no leading zeros, and the position past it. The digits after the first are found from the last one on;
 // a number of one digit needs no search.
-#[tactic(auto, using(crate::proofs::DigitLaws::sets_one, crate::proofs::DigitLaws::length_one, crate::proofs::DigitLaws::place_left))]
+#[tactic(auto, using(crate::proofs::DigitLaws::sets_one, crate::proofs::DigitLaws::length_one))]
 pub fn put_decimal(out: &mut [u8], at: usize, x: u64) -> usize
     ensures { Wrote out.old at (digits x) out.new result }
 {

@@ -121,7 +121,7 @@ fn put_actions(out: &mut [u8], at: usize, actions: Actions) -> usize
     put_last(out, after_then, last)
 }
 
-#[tactic(auto, using(crate::proofs::WriteLaws::writes), unfolding(crate::specs::Line::level_text))]
+#[tactic(auto, unfolding(crate::specs::Line::level_text))]
 fn put_level(out: &mut [u8], at: usize, level: Level) -> usize
     requires { Room out.old at (level_text level) }
     ensures { Wrote out.old at (level_text level) out.new result }
@@ -143,7 +143,7 @@ fn put_if(out: &mut [u8], at: usize, test: bool, letter: u8) -> usize
     at
 }
 
-#[tactic(auto, using(crate::proofs::WriteLaws::writes), unfolding(crate::specs::Line::actions_text))]
+#[tactic(auto, unfolding(crate::specs::Line::actions_text))]
 fn put_coupling(out: &mut [u8], at: usize, coupling: Coupling) -> usize
     requires { Room out.old at (actions_text (act_coupled coupling)) }
     ensures { Wrote out.old at (actions_text (act_coupled coupling)) out.new result }
@@ -154,7 +154,7 @@ fn put_coupling(out: &mut [u8], at: usize, coupling: Coupling) -> usize
     }
 }
 
-#[tactic(auto, using(crate::proofs::WriteLaws::writes), unfolding(crate::specs::Line::actions_text, crate::specs::Line::action_text))]
+#[tactic(auto, unfolding(crate::specs::Line::actions_text, crate::specs::Line::action_text))]
 fn put_then(out: &mut [u8], at: usize, then: Then) -> usize
     requires { Room out.old at (actions_text (then_of then)) }
     ensures { Wrote out.old at (actions_text (then_of then)) out.new result }
@@ -166,7 +166,7 @@ fn put_then(out: &mut [u8], at: usize, then: Then) -> usize
     }
 }
 
-#[tactic(auto, using(crate::proofs::WriteLaws::writes), unfolding(crate::specs::Line::actions_text, crate::specs::Line::action_text))]
+#[tactic(auto, unfolding(crate::specs::Line::actions_text, crate::specs::Line::action_text))]
 fn put_last(out: &mut [u8], at: usize, last: Last) -> usize
     requires { Room out.old at (actions_text (last_of last)) }
     ensures { Wrote out.old at (actions_text (last_of last)) out.new result }
@@ -182,7 +182,7 @@ fn put_last(out: &mut [u8], at: usize, last: Last) -> usize
     }
 }
 
-#[tactic(auto, using(crate::proofs::WriteLaws::writes), unfolding(crate::specs::Line::actions_text, crate::specs::Line::action_text, crate::specs::Text::digits, crate::specs::Text::digits_within))]
+#[tactic(auto, unfolding(crate::specs::Line::actions_text, crate::specs::Line::action_text, crate::specs::Text::digits, crate::specs::Text::digits_within))]
 fn put_c(out: &mut [u8], at: usize, wanted: bool) -> usize
     requires { Room out.old at (actions_text (act C (cond wanted 1 0))) }
     ensures { Wrote out.old at (actions_text (act C (cond wanted 1 0))) out.new result }
@@ -203,7 +203,7 @@ fn put_valued(out: &mut [u8], at: usize, letter: u8, value: u8) -> usize
     put_eight_bits(out, value_at, value)
 }
 
-#[tactic(auto, using(crate::proofs::WriteLaws::writes), unfolding(crate::specs::Line::actions_text, crate::specs::Line::action_text))]
+#[tactic(auto, unfolding(crate::specs::Line::actions_text, crate::specs::Line::action_text))]
 fn put_w(out: &mut [u8], at: usize, until: u64) -> usize
     requires { Room out.old at (actions_text (act W until)) }
     ensures { Wrote out.old at (actions_text (act W until)) out.new result }
