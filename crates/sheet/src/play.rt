@@ -40,9 +40,8 @@ pub fn play(records: &[u8], out: &mut [u8]) -> Played
     Played::Refused(Refusal::RecordWrong)
 }
 
-// The bytes written, or minus the number of the refusal.
-#[unsafe(no_mangle)]
-pub extern "C" fn level_control_play(records: &[u8], out: &mut [u8]) -> i32
+// The bytes written, or minus the number of the refusal: what the C entry gives, which `sheet_c` exports.
+pub fn level_control_play(records: &[u8], out: &mut [u8]) -> i32
     ensures { (result, out.new) ≡ returned (play_of records.now out.old) }
 {
     match play(records, out) {
