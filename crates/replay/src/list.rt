@@ -1,17 +1,16 @@
 // A list of plays (oracle/README.md, "A list of plays"), read piece by piece.
 use records::bytes::u32_at;
-use std::alloc::Global;
 use std::io;
 use std::io::Read;
+use text::front;
 
 // A list with longer records or a longer sheet counts as cut.
-const MOST_RECORDS: usize = 5_141;
+pub(crate) const MOST_RECORDS: usize = 5_141;
 
-const MOST_SHEET: usize = 65_536;
+pub(crate) const MOST_SHEET: usize = 65_536;
 
 #[derive(Drop)]
 pub(crate) struct List<R> {
-    alloc: Global,
     input: R,
     // The number of plays and the sum, as the head says.
     pub(crate) plays: u32,
@@ -20,10 +19,10 @@ pub(crate) struct List<R> {
     read: u32,
 }
 
-#[derive(Drop)]
-pub(crate) struct Play {
-    pub(crate) records: Vec<u8>,
-    pub(crate) sheet: Vec<u8>,
+#[derive(Clone, Copy)]
+pub(crate) struct Play<'a> {
+    pub(crate) records: &'a [u8],
+    pub(crate) sheet: &'a [u8],
 }
 
 // The sum of all bytes, modulo 2^32.
@@ -33,45 +32,50 @@ fn add_bytes(sum: u32, bytes: &[u8]) -> u32 {
         .fold(sum, |total, &byte| total.wrapping_add(u32::from(byte)))
 }
 
-// The next n bytes, or as many as there are.
-fn read_some(alloc: Global, input: &mut impl Read, n: usize) -> io::Result<Vec<u8>> {
-    let mut bytes = Vec::new(alloc);
-    input.take(n as u64).read_to_end(&mut bytes)?;
-    Ok(bytes)
+// The next n bytes, or as many as there are and the room holds.
+fn read_some<'a>(input: &mut impl Read, n: usize, room: &'a mut [u8]) -> io::Result<&'a [u8]> {
+    let n = front(n, room);
+    let read = io::copy(&mut input.take(n as u64), &mut &mut room[..n])?;
+    Ok(&room[..front(read as usize, room)])
 }
 
 impl<R: Read + Drop> List<R> {
     // Nothing where the input does not begin as a list does.
-    pub(crate) fn open(alloc: Global, mut input: R) -> io::Result<Option<List<R>>> {
-        let head = read_some(alloc, &mut input, 16)?;
+    pub(crate) fn open(mut input: R) -> io::Result<Option<List<R>>> {
+        let mut room = [0; 16];
+        let head = read_some(&mut input, 16, &mut room)?;
         if head.len() < 16 || !head.starts_with(b"LCPLAYS1") {
             return Ok(None);
         }
         Ok(Some(List {
-            alloc,
             input,
-            plays: u32_at(&head, 8),
-            sum: u32_at(&head, 12),
+            plays: u32_at(head, 8),
+            sum: u32_at(head, 12),
             read: 0,
         }))
     }
 
-    fn read_some(&mut self, n: usize) -> io::Result<Vec<u8>> {
-        let bytes = read_some(self.alloc, &mut self.input, n)?;
-        self.read = add_bytes(self.read, &bytes);
+    fn read_some<'a>(&mut self, n: usize, room: &'a mut [u8]) -> io::Result<&'a [u8]> {
+        let bytes = read_some(&mut self.input, n, room)?;
+        self.read = add_bytes(self.read, bytes);
         Ok(bytes)
     }
 
-    // The next play, or nothing where the list is cut.
-    pub(crate) fn play(&mut self) -> io::Result<Option<Play>> {
-        let head = self.read_some(8)?;
+    // The next play, in the room that is lent, or nothing where the list is cut.
+    pub(crate) fn play<'a>(
+        &mut self,
+        records: &'a mut [u8; MOST_RECORDS],
+        sheet: &'a mut [u8; MOST_SHEET],
+    ) -> io::Result<Option<Play<'a>>> {
+        let mut room = [0; 8];
+        let head = self.read_some(8, &mut room)?;
         if head.len() < 8 {
             return Ok(None);
         }
-        let n = u32_at(&head, 0) as usize;
-        let m = u32_at(&head, 4) as usize;
-        let records = self.read_some(n.min(MOST_RECORDS))?;
-        let sheet = self.read_some(m.min(MOST_SHEET))?;
+        let n = u32_at(head, 0) as usize;
+        let m = u32_at(head, 4) as usize;
+        let records = self.read_some(n, records)?;
+        let sheet = self.read_some(m, sheet)?;
         if records.len() < n || sheet.len() < m {
             return Ok(None);
         }
@@ -80,7 +84,8 @@ impl<R: Read + Drop> List<R> {
 
     // Whether nothing follows, and the sum is the head's.
     pub(crate) fn ends_well(&mut self) -> io::Result<bool> {
-        let more = self.read_some(1)?;
+        let mut room = [0; 1];
+        let more = self.read_some(1, &mut room)?;
         Ok(more.is_empty() && self.read == self.sum)
     }
 }

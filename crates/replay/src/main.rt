@@ -5,12 +5,12 @@
 mod list;
 mod states;
 
-use crate::list::{List, Play};
+use crate::list::{List, MOST_RECORDS, MOST_SHEET, Play};
 use crate::states::print_states;
 use sheet::key::key_sheet;
 use std::env::{Env, FillError};
 use std::io;
-use std::io::{BufWriter, Read, Write};
+use std::io::{Read, Write};
 use text::front;
 
 // Room for every sheet.
@@ -41,13 +41,13 @@ fn print_title(out: &mut impl Write, index: u32) -> io::Result<()> {
 }
 
 // What is done with a play: our sheet is held to the list's, or printed.
-fn show(out: &mut impl Write, index: u32, mode: Mode, play: &Play) -> io::Result<Verdict> {
+fn show(out: &mut impl Write, index: u32, mode: Mode, play: Play) -> io::Result<Verdict> {
     let mut room = [0; ROOM];
-    let length = front(key_sheet(&play.records, &mut room), &room);
+    let length = front(key_sheet(play.records, &mut room), &room);
     let sheet = &room[..length];
     match mode {
         Mode::Compare => {
-            if sheet != play.sheet.as_slice() {
+            if sheet != play.sheet {
                 return Ok(Verdict::Differs);
             }
         }
@@ -57,7 +57,7 @@ fn show(out: &mut impl Write, index: u32, mode: Mode, play: &Play) -> io::Result
         }
         Mode::States => {
             print_title(out, index)?;
-            print_states(out, &play.records)?;
+            print_states(out, play.records)?;
         }
     }
     Ok(Verdict::Agrees)
@@ -70,11 +70,13 @@ fn all(list: &mut List<impl Read + Drop>, mode: Mode, out: &mut impl Write) -> i
         whole: true,
     };
     for index in 1..=list.plays {
-        let Some(play) = list.play()? else {
+        let mut records = [0; MOST_RECORDS];
+        let mut sheet = [0; MOST_SHEET];
+        let Some(play) = list.play(&mut records, &mut sheet)? else {
             count.whole = false;
             break;
         };
-        match show(out, index, mode, &play)? {
+        match show(out, index, mode, play)? {
             Verdict::Agrees => count.agree += 1,
             Verdict::Differs => count.differ += 1,
         }
@@ -106,17 +108,17 @@ fn mode_of(rt: &impl Env) -> Mode {
 }
 
 fn main(rt: HostRuntime) -> io::Result<()> {
-    let mut out = BufWriter::new(rt.alloc(), io::writer(&rt))?;
-    let Some(mut list) = List::open(rt.alloc(), rt.reader())? else {
-        writeln!(out, "this is no list of plays")?;
-        return out.flush();
+    let mut out = io::writer(&rt);
+    let Some(mut list) = List::open(rt.reader())? else {
+        return writeln!(out, "this is no list of plays");
     };
     let mode = mode_of(&rt);
     let count = all(&mut list, mode, &mut out)?;
     if !count.whole || !list.ends_well()? {
-        writeln!(out, "the list is cut or damaged")?;
-    } else if matches!(mode, Mode::Compare) {
-        report(&mut out, count)?;
+        return writeln!(out, "the list is cut or damaged");
     }
-    out.flush()
+    match mode {
+        Mode::Compare => report(&mut out, count),
+        Mode::Sheets | Mode::States => Ok(()),
+    }
 }
