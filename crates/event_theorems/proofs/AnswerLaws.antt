@@ -115,24 +115,24 @@ module _ (s : LevelControlState) (f : Fade) (at : Micros) (on : Bool) (v : ℕ) 
     task = task_on c (task.Fade f);
   }
 
-  abbrev isStart : Bool
-  isStart = eqb f.remaining.0 (f.transition_time.0 * 100)
+  abbrev is_start : Bool
+  is_start = eqb f.remaining.0 (f.transition_time.0 * 100)
 
   -- what it tells
   abbrev reports : Bool → Bool → Reports
   reports changes end = record {
     stored = changes;
     scene = not f.scene_apply;
-    coupling = cond (isStart || end) (couples s.settings f.with_on_off on v) NotSent;
+    coupling = cond (is_start || end) (couples s.settings f.with_on_off on v) NotSent;
     level = leb 1000000 (at.0 - s.last_current_level_notification.0) || end || is_missing s.current_level || false;
-    time = remaining_time_due s.remaining_time (cond end (tenths 0) (tenths_up (millis (f.remaining.0 - f.period.0)))) isStart;
+    time = remaining_time_due s.remaining_time (cond end (tenths 0) (tenths_up (millis (f.remaining.0 - f.period.0)))) is_start;
   }
 
-  abbrev tellsOf : Bool → Level → Course → List Action
-  tellsOf end back c = reports_of (reports (changed s.current_level (Known v)) end) ++ (back_letters back (Known v) ++ course_letter c)
+  abbrev tells_of : Bool → Level → Course → List Action
+  tells_of end back c = reports_of (reports (changed s.current_level (Known v)) end) ++ (back_letters back (Known v) ++ course_letter c)
 
   told_as : (end : Bool) (back : Level) (c : Course) (l : List Action) → l ≡ back_letters back (Known v) ++ course_letter c
-      → done (faded end back c) (reports_of (reports (not (is_level s.current_level v)) end) ++ l) ≡ done (faded end back c) (tellsOf end back c)
+      → done (faded end back c) (reports_of (reports (not (is_level s.current_level v)) end) ++ l) ≡ done (faded end back c) (tells_of end back c)
   told_as end back c l e =
       ap (λ (b : Bool). done (faded end back c) (reports_of (reports b end) ++ l)) (changed_to s.current_level v)
       ∙ ap (λ (x : List Action). done (faded end back c) (reports_of (reports (changed s.current_level (Known v)) end) ++ x)) e
@@ -147,7 +147,7 @@ module _ (s : LevelControlState) (f : Fade) (at : Micros) (on : Bool) (v : ℕ) 
   abbrev told : Told
   told = fade_told (accept (at_task s (task.Fade f)) at) f at on v
 
-  ended : (back : Level) → eqb f.counter f.target ≡ true → fade_ended_by back told ≡ done (faded true back course.AtRest) (tellsOf true back course.AtRest)
+  ended : (back : Level) → eqb f.counter f.target ≡ true → fade_ended_by back told ≡ done (faded true back course.AtRest) (tells_of true back course.AtRest)
   unfolding restored fade_told fade_stored fade_coupling coupled_by set_level level_due current_level_due write_remaining_time is_transition_start remaining_after accept with_task with_level with_answered with_remaining_time level_or
   ended (Known before) q =
       let letters-of = reports_of (reports (not (is_level s.current_level v)) true) in
@@ -160,7 +160,7 @@ module _ (s : LevelControlState) (f : Fade) (at : Micros) (on : Bool) (v : ℕ) 
       (ap (λ (l : List Action). done (faded true Missing course.AtRest) l) (sym (append-nil letters-of)) ∙ told_as true Missing course.AtRest [] refl)
 
   goes_on : (since : Micros) → eqb f.counter f.target ≡ false
-      → fade_goes_on told f since at ≡ done (faded false Missing (course.fade_on f (Asked since) at)) (tellsOf false Missing (course.fade_on f (Asked since) at))
+      → fade_goes_on told f since at ≡ done (faded false Missing (course.fade_on f (Asked since) at)) (tells_of false Missing (course.fade_on f (Asked since) at))
   unfolding fade_goes_on wait_or_ask fade_asking fade_waiting fade_told fade_stored fade_coupling coupled_by set_level level_due current_level_due write_remaining_time is_transition_start remaining_after accept with_task with_answered with_remaining_time level_or
   goes_on since q = by (leb (at.0 - since.0) (f.period.0 * 1000))
     where
@@ -176,7 +176,7 @@ module _ (s : LevelControlState) (f : Fade) (at : Micros) (on : Bool) (v : ℕ) 
       asks = course.fade_asks f (f.remaining.0 - f.period.0) at
 
       by : (b : Bool) → fade_then (cond b (Wait (later since (millis_to_micros f.period))) Ask) told f at
-          ≡ done (faded false Missing (cond b waits asks)) (tellsOf false Missing (cond b waits asks))
+          ≡ done (faded false Missing (cond b waits asks)) (tells_of false Missing (cond b waits asks))
       by true = rw q (told_as false Missing waits (course_letter waits) refl)
       by false = rw q (told_as false Missing asks (course_letter asks) refl)
 
@@ -196,13 +196,13 @@ module _ (s : LevelControlState) (f : Fade) (at : Micros) (on : Bool) (v : ℕ) 
       crs b = cond b course.AtRest (course.fade_on f f.phase at)
 
       by : (b : Bool) → eqb f.counter f.target ≡ b
-          → cond b (fade_ended told f.after) (fade_goes_on told f since at) ≡ done (faded b (back b) (crs b)) (tellsOf b (back b) (crs b))
+          → cond b (fade_ended told f.after) (fade_goes_on told f since at) ≡ done (faded b (back b) (crs b)) (tells_of b (back b) (crs b))
       by true q = ap (λ (x : Level). fade_ended_by x told) (restore_is f.after s.attributes.on_level) ∙ ended (back true) q
       by false q =
           goes_on since q
-          ∙ ap (λ (p : Phase). done (faded false Missing (course.fade_on f p at)) (tellsOf false Missing (course.fade_on f p at))) (sym e)
+          ∙ ap (λ (p : Phase). done (faded false Missing (course.fade_on f p at)) (tells_of false Missing (course.fade_on f p at))) (sym e)
 
-      pages : done (faded last (back last) (crs last)) (tellsOf last (back last) (crs last)) ≡ gives (at_task s (task.Fade f)) (Answers (device.Level v)) at on
+      pages : done (faded last (back last) (crs last)) (tells_of last (back last) (crs last)) ≡ gives (at_task s (task.Fade f)) (Answers (device.Level v)) at on
       pages =
           ap (λ (l : List Action). done (faded last (back last) (crs last)) l)
           (told_letters (reports (changed s.current_level (Known v)) last) (back_letters (back last) (Known v) ++ course_letter (crs last)))
@@ -217,14 +217,14 @@ module _ (s : LevelControlState) (f : Fade) (at : Micros) (on : Bool) (v : ℕ) 
 
 -- A level, or that it is missing, that a move or the on reaction is answered.
 module _ (s : LevelControlState) (x : Task) (at : Micros) (on : Bool) (l : Level) (end : Bool) where
-  abbrev pub toldIn : Told
-  toldIn = told_level (accept (at_task s x) at) l at end
+  abbrev pub told_within : Told
+  told_within = told_level (accept (at_task s x) at) l at end
 
   abbrev due : Bool
   due = leb 1000000 (at.0 - s.last_current_level_notification.0) || end || is_missing s.current_level || is_missing l
 
-  abbrev pub storedIn : Task → LevelControlState
-  storedIn y = record {
+  abbrev pub stored_within : Task → LevelControlState
+  stored_within y = record {
     settings = s.settings;
     attributes = s.attributes;
     current_level = l;
@@ -237,14 +237,14 @@ module _ (s : LevelControlState) (x : Task) (at : Micros) (on : Bool) (l : Level
   }
 
   -- P, S, L, and what follows
-  abbrev pub tellsIn : List Action → List Action
-  tellsIn more = act_if (changed s.current_level l) P ++ (act S 0 ++ (act_if due L ++ more))
+  abbrev pub tells_within : List Action → List Action
+  tells_within more = act_if (changed s.current_level l) P ++ (act S 0 ++ (act_if due L ++ more))
 
-  pub told_in : (y : Task) (more : List Action) → done (with_task toldIn.state y) (reports_of toldIn.reports ++ more) ≡ done (storedIn y) (tellsIn more)
+  pub told_in : (y : Task) (more : List Action) → done (with_task told_within.state y) (reports_of told_within.reports ++ more) ≡ done (stored_within y) (tells_within more)
   unfolding told_level set_level level_due current_level_due accept with_task with_answered
   told_in y more =
-      ap (λ (z : List Action). done (storedIn y) z)
-      (told_letters toldIn.reports more ∙ ap (λ (b : Bool). act_if b P ++ (act S 0 ++ (act_if due L ++ more))) (changed_is s.current_level l))
+      ap (λ (z : List Action). done (stored_within y) z)
+      (told_letters told_within.reports more ∙ ap (λ (b : Bool). act_if b P ++ (act S 0 ++ (act_if due L ++ more))) (changed_is s.current_level l))
 
 module _ (s : LevelControlState) (at : Micros) (on : Bool) where
   -- a move
@@ -262,18 +262,18 @@ module _ (s : LevelControlState) (at : Micros) (on : Bool) where
 
         shown : Bool → Phase → Outcome
         shown b p =
-            done (storedIn s (task.Move m) at on (Known v) b (task_on (crs b p) (task.Move m)))
-            (tellsIn s (task.Move m) at on (Known v) b (act_coupled (cpl b p) ++ course_letter (crs b p)))
+            done (stored_within s (task.Move m) at on (Known v) b (task_on (crs b p) (task.Move m)))
+            (tells_within s (task.Move m) at on (Known v) b (act_coupled (cpl b p) ++ course_letter (crs b p)))
 
         t : Bool → Told
-        t b = toldIn s (task.Move m) at on (Known v) b
+        t b = told_within s (task.Move m) at on (Known v) b
 
         on_by : (w : Bool) → move_next (cond w (Wait (later since m.course.period)) Ask) (t false) m at on
             ≡ done
-            (storedIn s (task.Move m) at on (Known v) false
+            (stored_within s (task.Move m) at on (Known v) false
             (task_on (cond w (course.Waits (course.until since m.course.period.0) (task.Move (record { course = m.course; asked = m.asked; phase = Waiting (micros (course.until since m.course.period.0)) })))
             (course.step m.course m.course.mode (Known v) at)) (task.Move m)))
-            (tellsIn s (task.Move m) at on (Known v) false
+            (tells_within s (task.Move m) at on (Known v) false
             (act_coupled (cond w NotSent (leaves_min m.course.mode (Known v) m.course s.settings on))
             ++ course_letter (cond w (course.Waits (course.until since m.course.period.0) (task.Move (record { course = m.course; asked = m.asked; phase = Waiting (micros (course.until since m.course.period.0)) })))
             (course.step m.course m.course.mode (Known v) at))))
@@ -290,7 +290,7 @@ module _ (s : LevelControlState) (at : Micros) (on : Bool) where
             ≡ shown b (Asked since)
         by true =
             told_in s (task.Move m) at on (Known v) true task.Rest (act_coupled (couples s.settings m.course.with_on_off on v))
-            ∙ ap (λ (z : List Action). done (storedIn s (task.Move m) at on (Known v) true task.Rest) (tellsIn s (task.Move m) at on (Known v) true z)) (sym (append-nil _))
+            ∙ ap (λ (z : List Action). done (stored_within s (task.Move m) at on (Known v) true task.Rest) (tells_within s (task.Move m) at on (Known v) true z)) (sym (append-nil _))
         by false = on_by (leb (at.0 - since.0) m.course.period.0)
 
     move_missing_gives : move_missing (accept (at_task s (task.Move m)) at) (move_ends (accept (at_task s (task.Move m)) at) m.asked) at
@@ -306,7 +306,7 @@ module _ (s : LevelControlState) (at : Micros) (on : Bool) where
     on_level_gives v = from s.attributes.on_level r.before
       where
         t : Told
-        t = toldIn s (task.OnReaction r) at on (Known v) false
+        t = told_within s (task.OnReaction r) at on (Known v) false
 
         time : ℕ
         time = given_or s.attributes.on_transition_time s.attributes.on_off_transition_time.0
@@ -328,8 +328,8 @@ module _ (s : LevelControlState) (at : Micros) (on : Bool) where
             ∙ append_assoc (reports_of t.reports) (coupling (target s level)) (course_letter (onward level))
 
         to : (level : ℕ) → go_to t (request_to t.state level (on_time t.state) true false false) at on
-            ≡ done (storedIn s (task.OnReaction r) at on (Known v) false (task_on (towards (Known v) (target s level) time true false false at) (task.OnReaction r)))
-            (tellsIn s (task.OnReaction r) at on (Known v) false
+            ≡ done (stored_within s (task.OnReaction r) at on (Known v) false (task_on (towards (Known v) (target s level) time true false false at) (task.OnReaction r)))
+            (tells_within s (task.OnReaction r) at on (Known v) false
             (act_coupled (couples_reached (Known v) (target s level) true s.settings on) ++ course_letter (towards (Known v) (target s level) time true false false at)))
         to level =
             go_to_is t (request_to t.state level (on_time t.state) true false false) at on (Known v) refl
@@ -340,8 +340,8 @@ module _ (s : LevelControlState) (at : Micros) (on : Bool) where
             ∙ told_in s (task.OnReaction r) at on (Known v) false _ _
 
         from : (l before : Level) → on_to (level_or l before) t at on
-            ≡ done (storedIn s (task.OnReaction r) at on (Known v) false (task_on (course.on_towards l before v (at_task s (task.OnReaction r)) at) (task.OnReaction r)))
-            (tellsIn s (task.OnReaction r) at on (Known v) false (act_coupled (on_reached l before v (at_task s (task.OnReaction r)) on) ++ course_letter (course.on_towards l before v (at_task s (task.OnReaction r)) at)))
+            ≡ done (stored_within s (task.OnReaction r) at on (Known v) false (task_on (course.on_towards l before v (at_task s (task.OnReaction r)) at) (task.OnReaction r)))
+            (tells_within s (task.OnReaction r) at on (Known v) false (act_coupled (on_reached l before v (at_task s (task.OnReaction r)) on) ++ course_letter (course.on_towards l before v (at_task s (task.OnReaction r)) at)))
         from (Known level) before = to level
         from Missing (Known level) = to level
         from Missing Missing = told_in s (task.OnReaction r) at on (Known v) false task.Rest (act E 15)

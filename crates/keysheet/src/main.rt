@@ -6,13 +6,21 @@ use std::io;
 use std::io::{Read, Write};
 use text::front;
 
+// One byte more than a play may have, so that a longer input is seen to be too long.
+const MOST_READ: usize = 5_121;
+
+// Room for every sheet.
+const ROOM: usize = 48_195;
+
 fn main(rt: HostRuntime) -> io::Result<()> {
-    // One byte more than a play may have, so that a longer input is seen to be too long.
-    let mut records = [0; 5_121];
-    let read = io::copy(&mut rt.reader().take(5_121), &mut &mut records[..])?;
+    let mut records = [0; MOST_READ];
+    let read = io::copy(
+        &mut rt.reader().take(MOST_READ as u64),
+        &mut &mut records[..],
+    )?;
+    // No more than the room: nothing is cut.
     let read = front(read as usize, &records);
-    // Room for every sheet.
-    let mut sheet = [0; 48_195];
+    let mut sheet = [0; ROOM];
     let length = front(key_sheet(&records[..read], &mut sheet), &sheet);
     io::writer(&rt).write_all(&sheet[..length])
 }

@@ -325,18 +325,18 @@ module _ (s : LevelControlState) (before : Level) (at : Micros) (on : Bool) (v :
   abbrev pub on_answer : Outcome
   on_answer = on_goes_on told (record { before = before }) at on
 
-  abbrev onRequest : ℕ → FadeRequest
-  onRequest l = request_to told.state l (on_time told.state) true false false
+  abbrev on_request : ℕ → FadeRequest
+  on_request l = request_to told.state l (on_time told.state) true false false
 
   -- what part 9 names when it leads to a level
-  abbrev onGiven : ℕ
-  onGiven = given_or s.attributes.on_transition_time s.attributes.on_off_transition_time.0
+  abbrev on_given : ℕ
+  on_given = given_or s.attributes.on_transition_time s.attributes.on_off_transition_time.0
 
-  abbrev toLevel : ℕ → Start
-  toLevel l = start_from (Known v) (target s l) onGiven
+  abbrev to_level : ℕ → Start
+  to_level l = start_from (Known v) (target s l) on_given
 
   -- "to `on_level`, else to the level before", or there is nothing to return to
-  returns : (o b : Level) → ((l : ℕ) × (level_or o b ≡ Known l) × (on_start_at o b s v ≡ toLevel l)) ⊎ ((level_or o b ≡ Missing) × (on_start_at o b s v ≡ NoFade))
+  returns : (o b : Level) → ((l : ℕ) × (level_or o b ≡ Known l) × (on_start_at o b s v ≡ to_level l)) ⊎ ((level_or o b ≡ Missing) × (on_start_at o b s v ≡ NoFade))
   unfolding level_or
   returns (Known l) b = inl (l, refl, refl)
   returns Missing (Known l) = inl (l, refl, refl)
@@ -354,25 +354,25 @@ module _ (s : LevelControlState) (before : Level) (at : Micros) (on : Bool) (v :
   unfolding told_level set_level with_answered accept
   told_last = refl
 
-  on_target : (l : ℕ) → (onRequest l).target ≡ target s l
+  on_target : (l : ℕ) → (on_request l).target ≡ target s l
   unfolding told_level set_level with_answered accept
   on_target l = target_is s l
 
-  on_time_given : (on_time told.state).0 ≡ onGiven
+  on_time_given : (on_time told.state).0 ≡ on_given
   unfolding on_time told_level set_level with_answered accept
   on_time_given = given_is s.attributes.on_transition_time s.attributes.on_off_transition_time
 
   pub on_starts : (c t T : ℕ) → on_start_at s.attributes.on_level before s v ≡ Fades c t T → Starting on_answer at c t T
   on_starts c t T e = by (returns s.attributes.on_level before)
     where
-      by : ((l : ℕ) × (level_or s.attributes.on_level before ≡ Known l) × (on_start_at s.attributes.on_level before s v ≡ toLevel l))
+      by : ((l : ℕ) × (level_or s.attributes.on_level before ≡ Known l) × (on_start_at s.attributes.on_level before s v ≡ to_level l))
           ⊎ ((level_or s.attributes.on_level before ≡ Missing) × (on_start_at s.attributes.on_level before s v ≡ NoFade))
           → Starting on_answer at c t T
       by (inl (l, q, n)) =
           let from = from_fades _ _ _ c t T (sym n ∙ e) in
           record {
             told = told;
-            request = onRequest l;
+            request = on_request l;
             on = on;
             outcome = goes_to (Known l) q;
             level = told_level_known ∙ from.level;
@@ -388,14 +388,14 @@ module _ (s : LevelControlState) (before : Level) (at : Micros) (on : Bool) (v :
   unfolding with_task
   on_rests e = by (returns s.attributes.on_level before)
     where
-      by : ((l : ℕ) × (level_or s.attributes.on_level before ≡ Known l) × (on_start_at s.attributes.on_level before s v ≡ toLevel l))
+      by : ((l : ℕ) × (level_or s.attributes.on_level before ≡ Known l) × (on_start_at s.attributes.on_level before s v ≡ to_level l))
           ⊎ ((level_or s.attributes.on_level before ≡ Missing) × (on_start_at s.attributes.on_level before s v ≡ NoFade))
           → on_answer.state.task ≡ task.Rest
       by (inl (l, q, n)) =
           ap (λ (o : Outcome). o.state.task) (goes_to (Known l) q)
-          ∙ go_to_rests told (onRequest l) at on onGiven
-          (ap (λ (x : ℕ). start_from told.state.current_level x onGiven) (on_target l)
-          ∙ ap (λ (x : Level). start_from x (target s l) onGiven) told_level_known
+          ∙ go_to_rests told (on_request l) at on on_given
+          (ap (λ (x : ℕ). start_from told.state.current_level x on_given) (on_target l)
+          ∙ ap (λ (x : Level). start_from x (target s l) on_given) told_level_known
           ∙ sym n
           ∙ e)
       by (inr (q, n)) = ap (λ (o : Outcome). o.state.task) (goes_to Missing q)

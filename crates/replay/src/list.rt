@@ -36,7 +36,9 @@ fn add_bytes(sum: u32, bytes: &[u8]) -> u32 {
 fn read_some<'a>(input: &mut impl Read, n: usize, room: &'a mut [u8]) -> io::Result<&'a [u8]> {
     let n = front(n, room);
     let read = io::copy(&mut input.take(n as u64), &mut &mut room[..n])?;
-    Ok(&room[..front(read as usize, room)])
+    // No more than the room: nothing is cut.
+    let read = front(read as usize, room);
+    Ok(&room[..read])
 }
 
 impl<R: Read + Drop> List<R> {
@@ -55,7 +57,8 @@ impl<R: Read + Drop> List<R> {
         }))
     }
 
-    fn read_some<'a>(&mut self, n: usize, room: &'a mut [u8]) -> io::Result<&'a [u8]> {
+    // The same, added to the sum.
+    fn read_summed<'a>(&mut self, n: usize, room: &'a mut [u8]) -> io::Result<&'a [u8]> {
         let bytes = read_some(&mut self.input, n, room)?;
         self.read = add_bytes(self.read, bytes);
         Ok(bytes)
@@ -68,14 +71,14 @@ impl<R: Read + Drop> List<R> {
         sheet: &'a mut [u8; MOST_SHEET],
     ) -> io::Result<Option<Play<'a>>> {
         let mut room = [0; 8];
-        let head = self.read_some(8, &mut room)?;
+        let head = self.read_summed(8, &mut room)?;
         if head.len() < 8 {
             return Ok(None);
         }
         let n = u32_at(head, 0) as usize;
         let m = u32_at(head, 4) as usize;
-        let records = self.read_some(n, records)?;
-        let sheet = self.read_some(m, sheet)?;
+        let records = self.read_summed(n, records)?;
+        let sheet = self.read_summed(m, sheet)?;
         if records.len() < n || sheet.len() < m {
             return Ok(None);
         }
@@ -85,7 +88,7 @@ impl<R: Read + Drop> List<R> {
     // Whether nothing follows, and the sum is the head's.
     pub(crate) fn ends_well(&mut self) -> io::Result<bool> {
         let mut room = [0; 1];
-        let more = self.read_some(1, &mut room)?;
+        let more = self.read_summed(1, &mut room)?;
         Ok(more.is_empty() && self.read == self.sum)
     }
 }

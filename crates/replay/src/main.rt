@@ -92,11 +92,11 @@ fn report(out: &mut impl Write, count: Count) -> io::Result<()> {
     )
 }
 
+// Whatever its bytes are.
 fn has_argument(rt: &impl Env, index: usize) -> bool {
     !matches!(rt.arg(index, &mut []), Err(FillError::NotPresent))
 }
 
-// The arguments are counted, whatever they say.
 fn mode_of(rt: &impl Env) -> Mode {
     if has_argument(rt, 2) {
         Mode::States

@@ -1,4 +1,4 @@
-// The C entry: settings, then a line for each event.
+// A play: settings, then a line for each event.
 ghost use Rattle.std.specs.Prelude.{◌≡◌, ◌≤◌};
 ghost use Rattle.sheet.specs.Play.{length_ok, play_of, returned, written};
 

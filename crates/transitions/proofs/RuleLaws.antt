@@ -329,30 +329,30 @@ move_period_rounds rate pos = (below_it rate 0 pos, above_it rate 0 pos)
 -- Part 10
 
 module _ (ids values : List ℕ) where
-  abbrev first-pair : (p : Pair) → First decides (pairs ids values) p → scene_level ids values ≡ Known p.value
+  abbrev first_pair : (p : Pair) → First decides (pairs ids values) p → scene_level ids values ≡ Known p.value
   unfolding scene_level
-  first-pair p f = found decides (λ p. Known p.value) Missing (pairs ids values) p f
+  first_pair p f = found decides (λ p. Known p.value) Missing (pairs ids values) p f
 
-  abbrev no-pair : NoneOf decides (pairs ids values) → scene_level ids values ≡ Missing
+  abbrev no_pair : NoneOf decides (pairs ids values) → scene_level ids values ≡ Missing
   unfolding scene_level
-  no-pair n = missed decides (λ p. Known p.value) Missing (pairs ids values) n
+  no_pair n = missed decides (λ p. Known p.value) Missing (pairs ids values) n
 
   scene_known : (v : ℕ) → (scene_level ids values ≡ Known v) ↔ ((p : Pair) × First decides (pairs ids values) p × (p.value ≡ v))
   scene_known v = (
     λ e. ⊎_elim
-        (λ f. (f.0, f.1, known_is f.0.value v (sym (first-pair f.0 f.1) ∙ e)))
-        (λ n. absurd (let p = sym (no-pair n) ∙ e in let z : ◌≡◌ {A = ℕ} 0 1 = cc in omega arith))
+        (λ f. (f.0, f.1, known_is f.0.value v (sym (first_pair f.0 f.1) ∙ e)))
+        (λ n. absurd (let p = sym (no_pair n) ∙ e in let z : ◌≡◌ {A = ℕ} 0 1 = cc in omega arith))
         (either decides (pairs ids values)),
-    λ h. first-pair h.0 h.1 ∙ ap Known h.2,
+    λ h. first_pair h.0 h.1 ∙ ap Known h.2,
   )
 
   scene_missing : (scene_level ids values ≡ Missing) ↔ NoneOf decides (pairs ids values)
   scene_missing = (
     λ e. ⊎_elim
-        (λ f. absurd (let p = sym (first-pair f.0 f.1) ∙ e in let z : ◌≡◌ {A = ℕ} 0 1 = cc in omega arith))
+        (λ f. absurd (let p = sym (first_pair f.0 f.1) ∙ e in let z : ◌≡◌ {A = ℕ} 0 1 = cc in omega arith))
         (λ n. n)
         (either decides (pairs ids values)),
-    no-pair,
+    no_pair,
   )
 
 -- Causes
