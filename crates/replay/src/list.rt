@@ -57,7 +57,7 @@ impl<R: Read + Drop> List<R> {
         }))
     }
 
-    // The same, added to the sum.
+    // As `read_some`, and added to the sum.
     fn read_summed<'a>(&mut self, n: usize, room: &'a mut [u8]) -> io::Result<&'a [u8]> {
         let bytes = read_some(&mut self.input, n, room)?;
         self.read = add_bytes(self.read, bytes);
