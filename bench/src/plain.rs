@@ -1,4 +1,4 @@
-//! The C entry once more, in plain Rust from document 01, to be measured beside ours: the state changes in place, and the text goes
+//! The C entry once more, in plain Rust by docs/RULES.md, to be measured beside ours: the state changes in place, and the text goes
 //! straight into the lent output. Nothing in it is tuned, and nothing is slower than one would write it anyway.
 
 const RECORD: usize = 20;
@@ -572,7 +572,7 @@ impl Lamp {
         Ok(())
     }
 
-    // ---- Parts 2 to 5
+    // ---- Remaining time, Options, Level reports, Coupling
 
     /// With R if a report is due.
     fn write_remaining_time(&mut self, millis: u32, start: bool) {

@@ -1,5 +1,5 @@
-"""Document 01 in Python, from its words. The generator follows it to make plausible events, and `compare --self-test` takes it for
-a port. It judges nothing: the Rust does."""
+"""The rules (docs/RULES.md) in Python, from their words. The generator follows them to make plausible events, and
+`compare --self-test` takes this for a port. It judges nothing: the Rust does."""
 import struct
 from types import SimpleNamespace
 
@@ -42,7 +42,7 @@ class Lamp:
         self.wait_until = None
         self.actions = []
 
-    # ---- Parts 2 to 5
+    # ---- Remaining time, Options, Level reports, Coupling
 
     def write_remaining_time_quietly(self, millis, start):
         new, old = -(-millis // 100), self.remaining
@@ -100,7 +100,7 @@ class Lamp:
         return target if target > 254 else min(max(target, self.MIN), self.MAX)
 
     def move_to_level(self, target, tenths, with_on_off=0, mask=0, override=0, scene=False, restore=None):
-        """Part 6's target rules. `restore`: the level before an off change, in a list."""
+        """The rules of Targets. `restore`: the level before an off change, in a list."""
         if target <= 254 and not self.should_continue(with_on_off, mask, override):
             return
         target = self.clamp(target)

@@ -1,5 +1,5 @@
-"""Plays with a name: document 01's sheet and keys, and the places where its words leave something open, each with the sheet
-that it must give. `decided N` is row N of the decisions."""
+"""Plays with a name: the small play (docs/RULES.md, Sheet), the questions with keys, and the points that were in doubt, each with the
+sheet that it must give. `decided N` is row N of docs/DECISIONS.md."""
 from plays.model import LAST_TIME as LAST
 from plays.model import SECOND
 from plays.records import *
@@ -13,64 +13,64 @@ def named(name, record, events, sheet):
     NAMED.append((name, record + b''.join(events), sheet.replace(' / ', '\n') + '\n' * bool(sheet)))
 
 
-# ---- Document 01: the sheet, whole
+# ---- Sheet: the small play
 
-named("document 01's sheet", S(level=10),
+named('the small play', S(level=10),
       [to(2_000_000, 13, 3), answer(2_000_000, 11), wake(2_100_000), answer(2_150_000, 12), wake(2_190_000), wake(2_200_000),
        answer(2_200_000, 13)],
       '1 0 10 0 D11 / 2 0 11 2 P S L W2100000 / 3 0 11 2 D12 / 4 0 12 1 P S W2200000 / 5 8 12 1 / 6 0 12 1 D13 / '
       '7 0 13 0 P S L R')
 
-# ---- Document 01: questions with keys
+# ---- Keys: the questions
 
-named('p1: 100 ms is 1 tenth', S(level=10), [to(0, 12, 2), answer(0, 11)], '1 0 10 0 D11 / 2 0 11 1 P S W100000')
-named('p1: 101 ms is 2', S(level=10),
+named('key 1: 100 ms is 1 tenth', S(level=10), [to(0, 12, 2), answer(0, 11)], '1 0 10 0 D11 / 2 0 11 1 P S W100000')
+named('key 1: 101 ms is 2', S(level=10),
       [to(0, 16, 2), answer(0, 11), wake(33_000), answer(33_000, 12), wake(66_000), answer(66_000, 13)],
       '1 0 10 0 D11 / 2 0 11 2 P S W33000 / 3 0 11 2 D12 / 4 0 12 2 P S W66000 / 5 0 12 2 D13 / 6 0 13 2 P S W99000')
-named('p2: 0 to 10, no report', S(level=10), [to(0, 21, 11), answer(0, 11)], '1 0 10 0 D11 / 2 0 11 10 P S W100000')
-named('p2: 0 to 11, report', S(level=10), [to(0, 22, 12), answer(0, 11)], '1 0 10 0 D11 / 2 0 11 11 P S R W100000')
-named('p3: 20 to 9 at the start', S(level=10), [to(0, 12, 40), answer(0, 11), to(0, 21, 10), answer(0, 12)],
+named('key 2: 0 to 10, no report', S(level=10), [to(0, 21, 11), answer(0, 11)], '1 0 10 0 D11 / 2 0 11 10 P S W100000')
+named('key 2: 0 to 11, report', S(level=10), [to(0, 22, 12), answer(0, 11)], '1 0 10 0 D11 / 2 0 11 11 P S R W100000')
+named('key 3: 20 to 9 at the start', S(level=10), [to(0, 12, 40), answer(0, 11), to(0, 21, 10), answer(0, 12)],
       '1 0 10 0 D11 / 2 0 11 20 P S R W2000000 / 3 0 11 20 D12 / 4 0 12 9 P S R W100000')
-named('p3: 20 to 10 at the start', S(level=10), [to(0, 12, 40), answer(0, 11), to(0, 22, 11), answer(0, 12)],
+named('key 3: 20 to 10 at the start', S(level=10), [to(0, 12, 40), answer(0, 11), to(0, 22, 11), answer(0, 12)],
       '1 0 10 0 D11 / 2 0 11 20 P S R W2000000 / 3 0 11 20 D12 / 4 0 12 10 P S W100000')
-named('p3: 20 to 10 later', S(level=10), [to(0, 13, 30), answer(0, 11), wake(SECOND), answer(SECOND, 12)],
+named('key 3: 20 to 10 later', S(level=10), [to(0, 13, 30), answer(0, 11), wake(SECOND), answer(SECOND, 12)],
       '1 0 10 0 D11 / 2 0 11 20 P S R W1000000 / 3 0 11 20 D12 / 4 0 12 10 P S L W2000000')
-named('p4: 1 tenth over 100 levels, period 1 ms', S(level=10),
+named('key 4: 1 tenth over 100 levels, period 1 ms', S(level=10),
       [to(0, 110, 1), answer(0, 11)],
       '1 0 10 0 D11 / 2 0 11 1 P S W1000')
-named('p4: over 101 levels, period 0', S(level=10), [to(7, 111, 1), answer(7, 11)], '1 0 10 0 D11 / 2 0 11 1 P S W7')
-named('p5: 65,535 tenths over 254 levels, period 25,801 ms', S(MIN=0, level=0), [to(0, 254, 65535), answer(0, 1)],
+named('key 4: over 101 levels, period 0', S(level=10), [to(7, 111, 1), answer(7, 11)], '1 0 10 0 D11 / 2 0 11 1 P S W7')
+named('key 5: 65,535 tenths over 254 levels, period 25,801 ms', S(MIN=0, level=0), [to(0, 254, 65535), answer(0, 1)],
       '1 0 0 0 D1 / 2 0 1 65277 P S R W25801000')
-named('p6: 250 up 10 in 100 tenths takes 40', S(level=250),
+named('key 6: 250 up 10 in 100 tenths takes 40', S(level=250),
       [step(0, 0, 10, 100), answer(0, 251)],
       '1 0 250 0 D251 / 2 0 251 30 P S R W1000000')
-named('p7: the same in 16,383 takes 6,553', S(level=250),
+named('key 7: the same in 16,383 takes 6,553', S(level=250),
       [step(0, 0, 10, 16383), answer(0, 251)],
       '1 0 250 0 D251 / 2 0 251 4915 P S R W163825000')
-named('p7: in 16,384 is 12, and the play goes on', S(level=250),
+named('key 7: in 16,384 is 12, and the play goes on', S(level=250),
       [step(5, 0, 10, 16384), step(4, 0, 10, 16383)],
       '1 12 250 0 / 2 0 250 0 D251')
-named('p8: rate 3', S(level=10), [move(0, 0, 3), answer(0, 11)], '1 0 10 0 D11 / 2 0 11 0 P S W333333')
-named('p8: rate 255', S(level=10), [move(0, 0, 255), answer(0, 11)], '1 0 10 0 D11 / 2 0 11 0 P S W3922')
-named('p9: 250 to 255 in 1 tenth, five requests', S(level=250),
+named('key 8: rate 3', S(level=10), [move(0, 0, 3), answer(0, 11)], '1 0 10 0 D11 / 2 0 11 0 P S W333333')
+named('key 8: rate 255', S(level=10), [move(0, 0, 255), answer(0, 11)], '1 0 10 0 D11 / 2 0 11 0 P S W3922')
+named('key 9: 250 to 255 in 1 tenth, five requests', S(level=250),
       [to(0, 255, 1), answer(0, 251), wake(20_000), answer(20_000, 252), wake(40_000), answer(40_000, 253), wake(60_000),
        answer(60_000, 254), wake(80_000), answer(80_000, 255)],
       '1 0 250 0 D251 / 2 0 251 1 P S W20000 / 3 0 251 1 D252 / 4 0 252 1 P S W40000 / 5 0 252 1 D253 / '
       '6 0 253 1 P S W60000 / 7 0 253 1 D254 / 8 0 254 1 P S W80000 / 9 0 254 1 D255 / 10 0 255 0 P S L R')
-named('p10: no report at 999,999', S(level=10),
+named('key 10: no report at 999,999', S(level=10),
       [move(999_999, 0, 3), answer(999_999, 11)],
       '1 0 10 0 D11 / 2 0 11 0 P S W1333332')
-named('p10: report at 1,000,000', S(level=10),
+named('key 10: report at 1,000,000', S(level=10),
       [move(SECOND, 0, 3), answer(SECOND, 11)],
       '1 0 10 0 D11 / 2 0 11 0 P S L W1333333')
-named('p11: a scene in 99 ms takes 0', S(level=10), [scene(0, 20, 99)], '1 0 10 0 D20')
-named('p11: in 6,553,600 ms takes 65,535', S(level=10),
+named('key 11: a scene in 99 ms takes 0', S(level=10), [scene(0, 20, 99)], '1 0 10 0 D20')
+named('key 11: in 6,553,600 ms takes 65,535', S(level=10),
       [scene(0, 12, 6_553_600), answer(0, 11)],
       '1 0 10 0 D11 / 2 0 11 32768 P R W3276750000')
-named('p12: on, level and on level missing', S(coupled=1), [on_off(0, 1), answer(0, 1)], '1 0 - 0 D1 / 2 0 1 0 P S L E15')
-named('p12: the same uncoupled', S(), [on_off(0, 1), answer(0, 1)], '1 0 - 0 D1 / 2 0 1 0 P S L E15')
+named('key 12: on, level and on level missing', S(coupled=1), [on_off(0, 1), answer(0, 1)], '1 0 - 0 D1 / 2 0 1 0 P S L E15')
+named('key 12: the same uncoupled', S(), [on_off(0, 1), answer(0, 1)], '1 0 - 0 D1 / 2 0 1 0 P S L E15')
 
-# ---- Document 01: wrong keys candidates write
+# ---- Keys: wrong keys candidates write
 
 named('wrong key: clamping 255', S(MIN=10, MAX=20, level=15), [to(0, 255), answer(0, 255)], '1 0 15 0 D255 / 2 0 255 0 P S L')
 named("wrong key: counting a fade from the device's answer", S(level=10), [to(0, 13, 3), answer(0, 50), wake(100_000)],
@@ -268,7 +268,7 @@ named('decided 29: lighting with MIN 0 is 4', S(MIN=0, lighting=1), [], '0 4')
 named('both: 2 comes first', S(MIN=0, MAX=255, lighting=1), [], '0 2')
 named('MIN above MAX is 3', S(MIN=9, MAX=8), [], '0 3')
 
-# ---- Causes 1 and 5 to 9, by document 01's table
+# ---- Causes: 1 and 5 to 9
 
 for at, value in ((0, 0x4D), (1, 0x45), (4, 2), (11, 0x40), (11, 0x80), (18, 2), (19, 1)):
     named('settings: byte %d is %d' % (at, value), S(level=10)[:at] + bytes([value]) + S(level=10)[at + 1:], [wake(0)], '0 1')

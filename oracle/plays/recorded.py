@@ -43,7 +43,7 @@ def make():
 
 
 def check_named(texts):
-    """The named plays come first, and first of all document 01's sheet."""
+    """The named plays come first, and first of all the small play."""
     states = bench.sheets(bench.rust(state=True), [play for _, play, _ in STATE])
     alone = bench.sheet(NAMED[0][1])
     for (name, _, wanted), given in zip([*NAMED, *STATE, NAMED[0]], [*texts[:len(NAMED)], *states, alone]):

@@ -1,4 +1,4 @@
-"""Document 01's records, built and described, and the format of a list of plays."""
+"""The records of docs/RULES.md, built and described, and the format of a list of plays."""
 import struct
 
 # ---- Settings

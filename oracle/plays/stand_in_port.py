@@ -10,10 +10,10 @@ from plays.records import unpack_list
 
 
 class Right(Lamp):
-    """Document 01, as the Rust has it."""
+    """The rules, as the Rust has them."""
 
 
-# ---- "Wrong keys candidates write"
+# ---- Keys: wrong keys candidates write
 
 
 class Clamps255(Lamp):
@@ -36,7 +36,7 @@ class ZeroesWhenAMoveReplacesAFade(Lamp):
         super().start_move(down, with_on_off, period)
 
 
-# ---- What demand 2 shuts out
+# ---- What Every event, last paragraph, shuts out
 
 
 class RefusesAll(Lamp):

@@ -1,4 +1,4 @@
-//! Document 01's records, played on the unchanged `level_control.rs` of rs-matter. `main.rs` prints the sheets; `../bench` measures
+//! The records of docs/RULES.md, played on the unchanged `level_control.rs` of rs-matter. `main.rs` prints the sheets; `../bench` measures
 //! the time that a play takes without them.
 #[macro_use]
 #[allow(dead_code, unused_imports)] // the source names more than a play reaches

@@ -1,4 +1,4 @@
-//! Plays document 01's records on the unchanged `level_control.rs` of rs-matter and prints the sheet.
+//! Plays the records of docs/RULES.md on the unchanged `level_control.rs` of rs-matter and prints the sheet.
 //!
 //!     oracle [--state] < PLAY      one play: its sheet
 //!     oracle [--state] LIST        a list of plays: each sheet under a line `# play N`

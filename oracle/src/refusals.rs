@@ -1,4 +1,4 @@
-//! The numbers that the Rust has no test for: 1, 3 and 5 to 9, by document 01 ("Causes and numbers"). They are the bench's own
+//! The numbers that the Rust has no test for: 1, 3 and 5 to 9, by docs/RULES.md (Causes). They are the bench's own
 //! and no evidence about the Rust.
 use crate::play::Record;
 

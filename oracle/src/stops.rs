@@ -17,7 +17,7 @@ thread_local! {
     static LAST_PANIC: RefCell<String> = RefCell::default();
 }
 
-/// Panics are kept, not printed: some of them are numbers of document 01.
+/// Panics are kept, not printed: some of them are numbers of causes.
 pub fn keep_panics() {
     std::panic::set_hook(Box::new(|info: &PanicHookInfo| {
         LAST_PANIC.set(info.to_string())

@@ -1,4 +1,5 @@
 -- What a device's answer gives, by field and by letter. Assumes nothing.
+use Rattle.std.specs.Prelude.{Option, Some, None, ℕ, Bool}
 use Prim.Native.Nat.{ℕ, ◌-◌, ◌*◌}
 use mathlib.Core.Bool.{Bool, true, false, cond, not, ◌&&◌, ◌||◌, false≢true}
 use mathlib.Core.Path.{◌≡◌, refl, sym, ap, ◌∙◌}
@@ -13,15 +14,10 @@ use Rattle.transitions.specs.Matter.{changed}
 use Rattle.transitions.specs.RemainingTime.{remaining_time_due}
 use Rattle.transitions.specs.Tasks.{phase_open, task_open, fade_asking, fade_waiting, level_to_restore}
 use Rattle.transitions.specs.Types.{is_missing, is_level, level_or}
-use Rattle.transitions.specs.declared.coupling.Coupling.{Coupling}
-use Rattle.transitions.specs.declared.coupling.Coupling.TheVariants.{NotSent}
-use Rattle.transitions.specs.declared.events.Action.{Action}
-use Rattle.transitions.specs.declared.events.ActionKind.TheVariants.{E, P, S, L}
+use Rattle.transitions.specs.declared.actions.Action.{Action}
+use Rattle.transitions.specs.declared.actions.ActionKind.TheVariants.{E, P, S, L}
 use Rattle.transitions.specs.declared.events.DeviceAnswer.{DeviceAnswer}
 use Rattle.transitions.specs.declared.events.DeviceAnswer.TheVariants as device
-use Rattle.transitions.specs.declared.fade.Next.TheVariants.{Wait, Ask}
-use Rattle.transitions.specs.declared.tasks.AfterFade.{AfterFade}
-use Rattle.transitions.specs.declared.tasks.AfterFade.TheVariants.{Stay, Restore}
 use Rattle.transitions.specs.declared.tasks.Fade.{Fade}
 use Rattle.transitions.specs.declared.tasks.Move.{Move}
 use Rattle.transitions.specs.declared.tasks.OnReaction.{OnReaction}
@@ -29,9 +25,8 @@ use Rattle.transitions.specs.declared.tasks.Phase.{Phase}
 use Rattle.transitions.specs.declared.tasks.Phase.TheVariants.{Asked, Waiting}
 use Rattle.transitions.specs.declared.tasks.Task.{Task}
 use Rattle.transitions.specs.declared.tasks.Task.TheVariants as task
-use Rattle.transitions.specs.declared.types.Level.{Level}
-use Rattle.transitions.specs.declared.types.Level.TheVariants.{Known, Missing}
-use Rattle.transitions.specs.ActionList.{reports_of}
+use Rattle.transitions.specs.Types.{Level}
+use Rattle.transitions.specs.Actions.{reports_of}
 use Rattle.level_control.specs.Answer.{Outcome, done}
 use Rattle.level_control.specs.Events.{fade_answered_in, move_answered_in, answered_in, answered}
 use Rattle.level_control.specs.Fades.{fade_coupling, fade_stored, fade_told, restored, fade_ended_by, fade_ended, fade_then, fade_goes_on, move_to_level_transition, fade_missing, device_failed, fade_answered}
@@ -42,8 +37,8 @@ use Rattle.level_control.specs.Rest.{stored_start_up, start_up_answered}
 use Rattle.level_control.specs.Starts.{given_or, target}
 use Rattle.level_control.specs.State.{accept, with_answered, with_level, with_previous_level, with_task, with_remaining_time}
 use Rattle.level_control.specs.Targets.{request_to, go_to}
-use Rattle.transitions.specs.declared.action_list.Reports.{Reports}
-use Rattle.level_control.specs.declared.reports.Told.{Told}
+use Rattle.transitions.specs.Actions.{Reports}
+use Rattle.level_control.specs.Reports.{Told}
 use Rattle.level_control.specs.declared.state.LevelControlState.{LevelControlState}
 use Rattle.level_control.proofs.StartLaws.{target_is, given_is}
 use Rattle.event_theorems.specs.Brings.{Answers, fade_back, is_end}
@@ -68,7 +63,7 @@ at_task s x = record {
   task = x;
 }
 
--- a task whose answers part 4 deals with
+-- a task whose answers fall under Level reports
 abbrev by_part_4 : Task → Bool
 by_part_4 task.Rest = false
 by_part_4 task.StartUp = false
@@ -82,10 +77,10 @@ module _ (s : LevelControlState) (at : Micros) (on : Bool) where
   unfolding start_up_answered stored_start_up next_state letters course.course accept with_task with_level level_or
   start_up_gives (device.Level v) =
       ap (λ (l : List Action). done (next_state (at_task s task.StartUp) (Answers (device.Level v)) at) l)
-      (ap (λ (b : Bool). act_if b P) (changed_is s.current_level (Known v)) ∙ sym (append-nil _))
+      (ap (λ (b : Bool). act_if b P) (changed_is s.current_level (Some v)) ∙ sym (append-nil _))
   start_up_gives device.Missing =
       ap (λ (l : List Action). done (next_state (at_task s task.StartUp) (Answers device.Missing) at) l)
-      (ap (λ (b : Bool). act_if b P) (changed_is s.current_level Missing) ∙ sym (append-nil _))
+      (ap (λ (b : Bool). act_if b P) (changed_is s.current_level None) ∙ sym (append-nil _))
   start_up_gives device.Failed = refl
 
   -- a failed device
@@ -104,7 +99,7 @@ module _ (s : LevelControlState) (f : Fade) (at : Micros) (on : Bool) (v : ℕ) 
   faded end back c = record {
     settings = s.settings;
     attributes = s.attributes;
-    current_level = level_or back (Known v);
+    current_level = level_or back (Some v);
     remaining_time = cond end (tenths 0) (tenths_up (millis (f.remaining.0 - f.period.0)));
     previous_current_level = s.current_level;
     last_current_level_notification =
@@ -123,44 +118,44 @@ module _ (s : LevelControlState) (f : Fade) (at : Micros) (on : Bool) (v : ℕ) 
   reports changes end = record {
     stored = changes;
     scene = not f.scene_apply;
-    coupling = cond (is_start || end) (couples s.settings f.with_on_off on v) NotSent;
+    coupling = cond (is_start || end) (couples s.settings f.with_on_off on v) None;
     level = leb 1000000 (at.0 - s.last_current_level_notification.0) || end || is_missing s.current_level || false;
     time = remaining_time_due s.remaining_time (cond end (tenths 0) (tenths_up (millis (f.remaining.0 - f.period.0)))) is_start;
   }
 
   abbrev tells_of : Bool → Level → Course → List Action
-  tells_of end back c = reports_of (reports (changed s.current_level (Known v)) end) ++ (back_letters back (Known v) ++ course_letter c)
+  tells_of end back c = reports_of (reports (changed s.current_level (Some v)) end) ++ (back_letters back (Some v) ++ course_letter c)
 
-  told_as : (end : Bool) (back : Level) (c : Course) (l : List Action) → l ≡ back_letters back (Known v) ++ course_letter c
+  told_as : (end : Bool) (back : Level) (c : Course) (l : List Action) → l ≡ back_letters back (Some v) ++ course_letter c
       → done (faded end back c) (reports_of (reports (not (is_level s.current_level v)) end) ++ l) ≡ done (faded end back c) (tells_of end back c)
   told_as end back c l e =
       ap (λ (b : Bool). done (faded end back c) (reports_of (reports b end) ++ l)) (changed_to s.current_level v)
-      ∙ ap (λ (x : List Action). done (faded end back c) (reports_of (reports (changed s.current_level (Known v)) end) ++ x)) e
+      ∙ ap (λ (x : List Action). done (faded end back c) (reports_of (reports (changed s.current_level (Some v)) end) ++ x)) e
 
-  restore_is : (after : AfterFade) (l : Level) → level_to_restore after l ≡ fade_back (device.Level v) true l after
+  restore_is : (after : Option ℕ) (l : Level) → level_to_restore after l ≡ fade_back (device.Level v) true l after
   unfolding level_to_restore
-  restore_is Stay (Known l) = refl
-  restore_is Stay Missing = refl
-  restore_is (Restore before) (Known l) = refl
-  restore_is (Restore before) Missing = refl
+  restore_is None (Some l) = refl
+  restore_is None None = refl
+  restore_is (Some before) (Some l) = refl
+  restore_is (Some before) None = refl
 
   abbrev told : Told
   told = fade_told (accept (at_task s (task.Fade f)) at) f at on v
 
   ended : (back : Level) → eqb f.counter f.target ≡ true → fade_ended_by back told ≡ done (faded true back course.AtRest) (tells_of true back course.AtRest)
   unfolding restored fade_told fade_stored fade_coupling coupled_by set_level level_due current_level_due write_remaining_time is_transition_start remaining_after accept with_task with_level with_answered with_remaining_time level_or
-  ended (Known before) q =
+  ended (Some before) q =
       let letters-of = reports_of (reports (not (is_level s.current_level v)) true) in
       rw q
-      (ap (λ (l : List Action). done (faded true (Known before) course.AtRest) l) (append_assoc letters-of (act_if (not (eqb v before)) P) (act L 0))
-      ∙ told_as true (Known before) course.AtRest (act_if (not (eqb v before)) P ++ act L 0) (sym (append-nil (act_if (not (eqb v before)) P ++ act L 0))))
-  ended Missing q =
+      (ap (λ (l : List Action). done (faded true (Some before) course.AtRest) l) (append_assoc letters-of (act_if (not (eqb v before)) P) (act L 0))
+      ∙ told_as true (Some before) course.AtRest (act_if (not (eqb v before)) P ++ act L 0) (sym (append-nil (act_if (not (eqb v before)) P ++ act L 0))))
+  ended None q =
       let letters-of = reports_of (reports (not (is_level s.current_level v)) true) in
       rw q
-      (ap (λ (l : List Action). done (faded true Missing course.AtRest) l) (sym (append-nil letters-of)) ∙ told_as true Missing course.AtRest [] refl)
+      (ap (λ (l : List Action). done (faded true None course.AtRest) l) (sym (append-nil letters-of)) ∙ told_as true None course.AtRest [] refl)
 
   goes_on : (since : Micros) → eqb f.counter f.target ≡ false
-      → fade_goes_on told f since at ≡ done (faded false Missing (course.fade_on f (Asked since) at)) (tells_of false Missing (course.fade_on f (Asked since) at))
+      → fade_goes_on told f since at ≡ done (faded false None (course.fade_on f (Asked since) at)) (tells_of false None (course.fade_on f (Asked since) at))
   unfolding fade_goes_on wait_or_ask fade_asking fade_waiting fade_told fade_stored fade_coupling coupled_by set_level level_due current_level_due write_remaining_time is_transition_start remaining_after accept with_task with_answered with_remaining_time level_or
   goes_on since q = by (leb (at.0 - since.0) (f.period.0 * 1000))
     where
@@ -175,10 +170,10 @@ module _ (s : LevelControlState) (f : Fade) (at : Micros) (on : Bool) (v : ℕ) 
       asks : Course
       asks = course.fade_asks f (f.remaining.0 - f.period.0) at
 
-      by : (b : Bool) → fade_then (cond b (Wait (later since (millis_to_micros f.period))) Ask) told f at
-          ≡ done (faded false Missing (cond b waits asks)) (tells_of false Missing (cond b waits asks))
-      by true = rw q (told_as false Missing waits (course_letter waits) refl)
-      by false = rw q (told_as false Missing asks (course_letter asks) refl)
+      by : (b : Bool) → fade_then (cond b (Some (later since (millis_to_micros f.period))) None) told f at
+          ≡ done (faded false None (cond b waits asks)) (tells_of false None (cond b waits asks))
+      by true = rw q (told_as false None waits (course_letter waits) refl)
+      by false = rw q (told_as false None asks (course_letter asks) refl)
 
   -- the pages say the same
   level_gives : (since : Micros) → f.phase ≡ Asked since
@@ -200,12 +195,12 @@ module _ (s : LevelControlState) (f : Fade) (at : Micros) (on : Bool) (v : ℕ) 
       by true q = ap (λ (x : Level). fade_ended_by x told) (restore_is f.after s.attributes.on_level) ∙ ended (back true) q
       by false q =
           goes_on since q
-          ∙ ap (λ (p : Phase). done (faded false Missing (course.fade_on f p at)) (tells_of false Missing (course.fade_on f p at))) (sym e)
+          ∙ ap (λ (p : Phase). done (faded false None (course.fade_on f p at)) (tells_of false None (course.fade_on f p at))) (sym e)
 
       pages : done (faded last (back last) (crs last)) (tells_of last (back last) (crs last)) ≡ gives (at_task s (task.Fade f)) (Answers (device.Level v)) at on
       pages =
           ap (λ (l : List Action). done (faded last (back last) (crs last)) l)
-          (told_letters (reports (changed s.current_level (Known v)) last) (back_letters (back last) (Known v) ++ course_letter (crs last)))
+          (told_letters (reports (changed s.current_level (Some v)) last) (back_letters (back last) (Some v) ++ course_letter (crs last)))
 
   -- the device has no level
   missing_gives : fade_missing (accept (at_task s (task.Fade f)) at) f at ≡ gives (at_task s (task.Fade f)) (Answers device.Missing) at on
@@ -213,7 +208,7 @@ module _ (s : LevelControlState) (f : Fade) (at : Micros) (on : Bool) (v : ℕ) 
   missing_gives =
       ap (λ (l : List Action). done (next_state (at_task s (task.Fade f)) (Answers device.Missing) at) l)
       (ap (λ (b : Bool). act_if b P ++ act_if (not f.scene_apply) S ++ act E 15) (changed_away s.current_level)
-      ∙ append_assoc (act_if (changed s.current_level Missing) P) (act_if (not f.scene_apply) S) (act E 15))
+      ∙ append_assoc (act_if (changed s.current_level None) P) (act_if (not f.scene_apply) S) (act E 15))
 
 -- A level, or that it is missing, that a move or the on reaction is answered.
 module _ (s : LevelControlState) (x : Task) (at : Micros) (on : Bool) (l : Level) (end : Bool) where
@@ -255,48 +250,48 @@ module _ (s : LevelControlState) (at : Micros) (on : Bool) where
     move_level_gives since v e = by (is_end m.asked s.settings) ∙ ap (λ (p : Phase). shown (is_end m.asked s.settings) p) (sym e)
       where
         crs : Bool → Phase → Course
-        crs b p = cond b course.AtRest (course.move_on m p (Known v) at)
+        crs b p = cond b course.AtRest (course.move_on m p (Some v) at)
 
-        cpl : Bool → Phase → Coupling
+        cpl : Bool → Phase → Option Bool
         cpl b p = cond b (couples s.settings m.course.with_on_off on v) (move_on_couples m p v s.settings on at)
 
         shown : Bool → Phase → Outcome
         shown b p =
-            done (stored_within s (task.Move m) at on (Known v) b (task_on (crs b p) (task.Move m)))
-            (tells_within s (task.Move m) at on (Known v) b (act_coupled (cpl b p) ++ course_letter (crs b p)))
+            done (stored_within s (task.Move m) at on (Some v) b (task_on (crs b p) (task.Move m)))
+            (tells_within s (task.Move m) at on (Some v) b (act_coupled (cpl b p) ++ course_letter (crs b p)))
 
         t : Bool → Told
-        t b = told_within s (task.Move m) at on (Known v) b
+        t b = told_within s (task.Move m) at on (Some v) b
 
-        on_by : (w : Bool) → move_next (cond w (Wait (later since m.course.period)) Ask) (t false) m at on
+        on_by : (w : Bool) → move_next (cond w (Some (later since m.course.period)) None) (t false) m at on
             ≡ done
-            (stored_within s (task.Move m) at on (Known v) false
+            (stored_within s (task.Move m) at on (Some v) false
             (task_on (cond w (course.Waits (course.until since m.course.period.0) (task.Move (record { course = m.course; asked = m.asked; phase = Waiting (micros (course.until since m.course.period.0)) })))
-            (course.step m.course m.course.mode (Known v) at)) (task.Move m)))
-            (tells_within s (task.Move m) at on (Known v) false
-            (act_coupled (cond w NotSent (leaves_min m.course.mode (Known v) m.course s.settings on))
+            (course.step m.course m.course.mode (Some v) at)) (task.Move m)))
+            (tells_within s (task.Move m) at on (Some v) false
+            (act_coupled (cond w None (leaves_min m.course.mode (Some v) m.course s.settings on))
             ++ course_letter (cond w (course.Waits (course.until since m.course.period.0) (task.Move (record { course = m.course; asked = m.asked; phase = Waiting (micros (course.until since m.course.period.0)) })))
-            (course.step m.course m.course.mode (Known v) at))))
-        on_by true = told_in s (task.Move m) at on (Known v) false _ _
+            (course.step m.course m.course.mode (Some v) at))))
+        on_by true = told_in s (task.Move m) at on (Some v) false _ _
         on_by false =
-            move_is (t false) m.course at on (Known v) refl
-            ∙ ap (λ (z : List Action). done (with_task (t false).state (task_on (course.step m.course m.course.mode (Known v) at) (task.Move m))) z)
-            (append_assoc (reports_of (t false).reports) (act_coupled (leaves_min m.course.mode (Known v) m.course s.settings on)) (course_letter (course.step m.course m.course.mode (Known v) at)))
-            ∙ told_in s (task.Move m) at on (Known v) false _ _
+            move_is (t false) m.course at on (Some v) refl
+            ∙ ap (λ (z : List Action). done (with_task (t false).state (task_on (course.step m.course m.course.mode (Some v) at) (task.Move m))) z)
+            (append_assoc (reports_of (t false).reports) (act_coupled (leaves_min m.course.mode (Some v) m.course s.settings on)) (course_letter (course.step m.course m.course.mode (Some v) at)))
+            ∙ told_in s (task.Move m) at on (Some v) false _ _
 
         by : (b : Bool)
             → cond b (done (with_task (t b).state task.Rest) (reports_of (t b).reports ++ act_coupled (couples s.settings m.course.with_on_off on v)))
             (move_next (wait_or_ask since at m.course.period) (t b) m at on)
             ≡ shown b (Asked since)
         by true =
-            told_in s (task.Move m) at on (Known v) true task.Rest (act_coupled (couples s.settings m.course.with_on_off on v))
-            ∙ ap (λ (z : List Action). done (stored_within s (task.Move m) at on (Known v) true task.Rest) (tells_within s (task.Move m) at on (Known v) true z)) (sym (append-nil _))
+            told_in s (task.Move m) at on (Some v) true task.Rest (act_coupled (couples s.settings m.course.with_on_off on v))
+            ∙ ap (λ (z : List Action). done (stored_within s (task.Move m) at on (Some v) true task.Rest) (tells_within s (task.Move m) at on (Some v) true z)) (sym (append-nil _))
         by false = on_by (leb (at.0 - since.0) m.course.period.0)
 
     move_missing_gives : move_missing (accept (at_task s (task.Move m)) at) (move_ends (accept (at_task s (task.Move m)) at) m.asked) at
         ≡ gives (at_task s (task.Move m)) (Answers device.Missing) at on
     unfolding move_missing move_ends accept next_state letters course.course level_or
-    move_missing_gives = told_in s (task.Move m) at on Missing (is_end m.asked s.settings) task.Rest (act E 15)
+    move_missing_gives = told_in s (task.Move m) at on None (is_end m.asked s.settings) task.Rest (act E 15)
 
   -- the on reaction
   module _ (r : OnReaction) where
@@ -306,19 +301,19 @@ module _ (s : LevelControlState) (at : Micros) (on : Bool) where
     on_level_gives v = from s.attributes.on_level r.before
       where
         t : Told
-        t = told_within s (task.OnReaction r) at on (Known v) false
+        t = told_within s (task.OnReaction r) at on (Some v) false
 
         time : ℕ
         time = given_or s.attributes.on_transition_time s.attributes.on_off_transition_time.0
 
         coupling : ℕ → List Action
-        coupling x = act_coupled (couples_reached (Known v) x true s.settings on)
+        coupling x = act_coupled (couples_reached (Some v) x true s.settings on)
 
         first : ℕ → List Action
         first x = reports_of t.reports ++ coupling x ++ act_if (eqb v x && false) L
 
         onward : ℕ → Course
-        onward level = towards (Known v) (target s level) time true false false at
+        onward level = towards (Some v) (target s level) time true false false at
 
         letters_are : (level : ℕ) → first (target s level) ++ course_letter (onward level)
             ≡ reports_of t.reports ++ (coupling (target s level) ++ course_letter (onward level))
@@ -328,27 +323,27 @@ module _ (s : LevelControlState) (at : Micros) (on : Bool) where
             ∙ append_assoc (reports_of t.reports) (coupling (target s level)) (course_letter (onward level))
 
         to : (level : ℕ) → go_to t (request_to t.state level (on_time t.state) true false false) at on
-            ≡ done (stored_within s (task.OnReaction r) at on (Known v) false (task_on (towards (Known v) (target s level) time true false false at) (task.OnReaction r)))
-            (tells_within s (task.OnReaction r) at on (Known v) false
-            (act_coupled (couples_reached (Known v) (target s level) true s.settings on) ++ course_letter (towards (Known v) (target s level) time true false false at)))
+            ≡ done (stored_within s (task.OnReaction r) at on (Some v) false (task_on (towards (Some v) (target s level) time true false false at) (task.OnReaction r)))
+            (tells_within s (task.OnReaction r) at on (Some v) false
+            (act_coupled (couples_reached (Some v) (target s level) true s.settings on) ++ course_letter (towards (Some v) (target s level) time true false false at)))
         to level =
-            go_to_is t (request_to t.state level (on_time t.state) true false false) at on (Known v) refl
-            ∙ ap (λ (x : ℕ). goes t.state (towards (Known v) x (on_time t.state).0 true false false at) (first x)) (target_is s level)
-            ∙ ap (λ (y : ℕ). goes t.state (towards (Known v) (target s level) y true false false at) (first (target s level)))
+            go_to_is t (request_to t.state level (on_time t.state) true false false) at on (Some v) refl
+            ∙ ap (λ (x : ℕ). goes t.state (towards (Some v) x (on_time t.state).0 true false false at) (first x)) (target_is s level)
+            ∙ ap (λ (y : ℕ). goes t.state (towards (Some v) (target s level) y true false false at) (first (target s level)))
             (given_is s.attributes.on_transition_time s.attributes.on_off_transition_time)
             ∙ ap (λ (z : List Action). done (with_task t.state (task_on (onward level) (task.OnReaction r))) z) (letters_are level)
-            ∙ told_in s (task.OnReaction r) at on (Known v) false _ _
+            ∙ told_in s (task.OnReaction r) at on (Some v) false _ _
 
         from : (l before : Level) → on_to (level_or l before) t at on
-            ≡ done (stored_within s (task.OnReaction r) at on (Known v) false (task_on (course.on_towards l before v (at_task s (task.OnReaction r)) at) (task.OnReaction r)))
-            (tells_within s (task.OnReaction r) at on (Known v) false (act_coupled (on_reached l before v (at_task s (task.OnReaction r)) on) ++ course_letter (course.on_towards l before v (at_task s (task.OnReaction r)) at)))
-        from (Known level) before = to level
-        from Missing (Known level) = to level
-        from Missing Missing = told_in s (task.OnReaction r) at on (Known v) false task.Rest (act E 15)
+            ≡ done (stored_within s (task.OnReaction r) at on (Some v) false (task_on (course.on_towards l before v (at_task s (task.OnReaction r)) at) (task.OnReaction r)))
+            (tells_within s (task.OnReaction r) at on (Some v) false (act_coupled (on_reached l before v (at_task s (task.OnReaction r)) on) ++ course_letter (course.on_towards l before v (at_task s (task.OnReaction r)) at)))
+        from (Some level) before = to level
+        from None (Some level) = to level
+        from None None = told_in s (task.OnReaction r) at on (Some v) false task.Rest (act E 15)
 
     on_missing_gives : move_missing (accept (at_task s (task.OnReaction r)) at) false at ≡ gives (at_task s (task.OnReaction r)) (Answers device.Missing) at on
     unfolding move_missing accept next_state letters course.course level_or
-    on_missing_gives = told_in s (task.OnReaction r) at on Missing false task.Rest (act E 15)
+    on_missing_gives = told_in s (task.OnReaction r) at on None false task.Rest (act E 15)
 
 -- an answer goes to the task whose request is open
 pub answer_gives : (s : LevelControlState) (a : DeviceAnswer) (at : Micros) (on : Bool) → task_open s.task ≡ true

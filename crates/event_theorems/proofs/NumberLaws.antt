@@ -1,11 +1,11 @@
 -- The machine's number is that of the first cause of the table, and its options are the table's. Assumes nothing.
+use Rattle.std.specs.Prelude.{Some, None, Ok, Err}
 use Prim.Native.Nat.{ℕ, ◌*◌, ◌/◌}
 use mathlib.Core.Bool.{Bool, true, false, cond, not, ◌&&◌, ◌||◌}
 use mathlib.Core.Path.{◌≡◌, refl, ap, ◌∙◌}
 use lib.Dec.{eqb, ltb}
 use Rattle.units.specs.Units.{tenths, scaled_floor}
 use Rattle.units.specs.declared.Micros.{Micros}
-use Rattle.units.specs.declared.Scaled.TheVariants as scaled
 use Rattle.units.specs.declared.Tenths.{Tenths}
 use Rattle.transitions.specs.Causes.{first_cause}
 use Rattle.transitions.specs.Commands.{scaled_time, step_time, is_overflow, rate_in_force, is_invalid}
@@ -13,8 +13,6 @@ use Rattle.transitions.specs.Events.{event}
 use Rattle.transitions.specs.Matter.{move_rate}
 use Rattle.transitions.specs.Tasks.{phase_open, task_open, phase_due, task_due}
 use Rattle.transitions.specs.Types.{is_outside, is_zero_rate}
-use Rattle.transitions.specs.declared.commands.MoveRate.TheVariants.{Goes, InvalidCommand}
-use Rattle.transitions.specs.declared.commands.StepTime.TheVariants.{Takes}
 use Rattle.transitions.specs.declared.events.Event.{Event}
 use Rattle.transitions.specs.declared.events.EventKind.{EventKind}
 use Rattle.transitions.specs.declared.events.EventKind.TheVariants as kind
@@ -24,12 +22,9 @@ use Rattle.transitions.specs.declared.tasks.Phase.{Phase}
 use Rattle.transitions.specs.declared.tasks.Phase.TheVariants.{Asked, Waiting}
 use Rattle.transitions.specs.declared.tasks.Task.{Task}
 use Rattle.transitions.specs.declared.tasks.Task.TheVariants as task
-use Rattle.transitions.specs.declared.types.Level.{Level}
-use Rattle.transitions.specs.declared.types.Level.TheVariants.{Known, Missing}
-use Rattle.transitions.specs.declared.types.Rate.{Rate}
-use Rattle.transitions.specs.declared.types.Rate.TheVariants as rate
-use Rattle.transitions.specs.declared.types.Time.{Time}
-use Rattle.transitions.specs.declared.types.Time.TheVariants as time
+use Rattle.transitions.specs.Types.{Level}
+use Rattle.transitions.specs.Types.{Rate}
+use Rattle.transitions.specs.Types.{Time}
 use Rattle.level_control.specs.Causes.{time_refused, turn_tests, move_to_level_tests, move_tests, overflows_from, step_overflows, step_tests, stop_tests, scene_tests, level_tests, rate_tests, command_tests_of}
 use Rattle.level_control.specs.Events.{number_of}
 use Rattle.level_control.specs.Moves.{rate_by}
@@ -40,6 +35,8 @@ use Rattle.level_control.proofs.EventLaws.{stopped_in}
 use Rattle.level_control.proofs.StartLaws.{continues_is, step_is}
 use Rattle.event_theorems.specs.Table.{asked, request_open, ended, wait_over, product_too_large, outside, is_rate0, number_by}
 use Rattle.event_theorems.specs.ByField.{stopped}
+use Rattle.transitions.specs.declared.causes.Refusal.TheVariants.{InvalidCommand}
+use Rattle.transitions.specs.declared.events.Command.TheVariants as command
 
 open_is : (t : Task) → task_open t ≡ request_open t
 open_is task.Rest = refl
@@ -71,15 +68,15 @@ due_is (task.Move m) now = by m.phase
     by (Waiting until) = refl
 due_is (task.OnReaction r) now = refl
 
-outside_is : (l : Level) (s : LevelControlState) → is_outside l s.settings.min_level s.settings.max_level ≡ outside l s
-outside_is (Known l) s = refl
-outside_is Missing s = refl
+outside_is : (l : Level) (s : LevelControlState) → is_outside l s.settings.range.min s.settings.range.max ≡ outside l s
+outside_is (Some l) s = refl
+outside_is None s = refl
 
 rate_0_is : (r : Rate) → is_zero_rate r ≡ is_rate0 r
-rate_0_is (rate.Known r) = refl
-rate_0_is rate.Missing = refl
+rate_0_is (Some r) = refl
+rate_0_is None = refl
 
-invalid_0 : (n : ℕ) (b : Bool) → is_invalid (cond b InvalidCommand (Goes n)) ≡ b
+invalid_0 : (n : ℕ) (b : Bool) → is_invalid (cond b (Err InvalidCommand) (Ok n)) ≡ b
 invalid_0 n true = refl
 invalid_0 n false = refl
 
@@ -89,11 +86,11 @@ unfolding rate_by rate_in_force
 rate_is s r = by r.rate s.attributes.default_move_rate
   where
     by : (given default : Rate) → is_invalid (rate_in_force given default s.settings.fastest_rate) ≡ eqb (move_rate given default s.settings.fastest_rate) 0
-    by (rate.Known n) default = invalid_0 n (eqb n 0)
-    by rate.Missing (rate.Known n) = invalid_0 n (eqb n 0)
-    by rate.Missing rate.Missing = invalid_0 s.settings.fastest_rate (eqb s.settings.fastest_rate 0)
+    by (Some n) default = invalid_0 n (eqb n 0)
+    by None (Some n) = invalid_0 n (eqb n 0)
+    by None None = invalid_0 s.settings.fastest_rate (eqb s.settings.fastest_rate 0)
 
-overflow_by : (t x : Tenths) (b c : Bool) → is_overflow (cond b (Takes t) (scaled_time (cond c scaled.Overflow (scaled.Fits x)))) ≡ (not b && c)
+overflow_by : (t x : Tenths) (b c : Bool) → is_overflow (cond b (Ok t) (scaled_time (cond c None (Some x)))) ≡ (not b && c)
 overflow_by t x true c = refl
 overflow_by t x false true = refl
 overflow_by t x false false = refl
@@ -103,20 +100,20 @@ unfolding step_overflows stepped_time step_time scaled_floor
 product_is s r = from s.current_level
   where
     within : (c : ℕ) (t : Time)
-        → is_overflow (step_time t (distance (step_to r.mode s c r.step_size) c) r.step_size) ≡ product_too_large (Known c) t s r
-    within c (time.Known t) =
+        → is_overflow (step_time t (distance (step_to r.mode s c r.step_size) c) r.step_size) ≡ product_too_large (Some c) t s r
+    within c (Some t) =
         let actual = distance (step_to r.mode s c r.step_size) c in
         overflow_by t (tenths (t.0 * actual / r.step_size)) (eqb actual r.step_size) (ltb 65535 (t.0 * actual))
-    within c time.Missing = refl
+    within c None = refl
 
     from : (l : Level) → overflows_from l s r ≡ product_too_large l r.transition_time s r
-    from (Known c) =
+    from (Some c) =
         ap (λ (x : ℕ). is_overflow (step_time r.transition_time (distance x c) r.step_size)) (step_is s c r) ∙ within c r.transition_time
-    from Missing = none r.transition_time
+    from None = none r.transition_time
       where
-        none : (t : Time) → false ≡ product_too_large Missing t s r
-        none (time.Known t) = refl
-        none time.Missing = refl
+        none : (t : Time) → false ≡ product_too_large None t s r
+        none (Some t) = refl
+        none None = refl
 
 or_nothing : (b : Bool) → b ≡ (b || false)
 or_nothing true = refl
@@ -126,55 +123,55 @@ module _ (s : LevelControlState) (at : Micros) (on : Bool) where
   number_at : (k : EventKind) → number_of s (event at on k) ≡ number_by s (event at on k)
   unfolding number_of number_by first_cause turn_tests time_refused command_tests_of move_to_level_tests move_tests step_tests stop_tests scene_tests level_tests rate_tests
   number_at kind.StartUp = rw (open_is s.task) refl
-  number_at (kind.MoveToLevel r) = rw (open_is s.task, continues_is s r.with_on_off on r.options_mask r.options_override) refl
-  number_at (kind.Move r) =
-      rw (open_is s.task, rate_is s r, continues_is s r.with_on_off on r.options_mask r.options_override) refl
-  number_at (kind.Step r) =
-      rw (open_is s.task, continues_is s r.with_on_off on r.options_mask r.options_override, product_is s r) refl
-  number_at (kind.Stop r) = rw (open_is s.task, continues_is s r.with_on_off on r.options_mask r.options_override) refl
+  number_at (kind.Command (command.MoveToLevel r)) = rw (open_is s.task, continues_is s r.options.with_on_off on r.options.options_mask r.options.options_override) refl
+  number_at (kind.Command (command.Move r)) =
+      rw (open_is s.task, rate_is s r, continues_is s r.options.with_on_off on r.options.options_mask r.options.options_override) refl
+  number_at (kind.Command (command.Step r)) =
+      rw (open_is s.task, continues_is s r.options.with_on_off on r.options.options_mask r.options.options_override, product_is s r) refl
+  number_at (kind.Command (command.Stop r)) = rw (open_is s.task, continues_is s r.with_on_off on r.options_mask r.options_override) refl
   number_at (kind.Answer a) = rw (open_is s.task) refl
   number_at kind.Wake = rw (open_is s.task, due_is s.task at) refl
-  number_at (kind.OnOffChanged value) = rw (open_is s.task) refl
-  number_at (kind.Scene r) = by r.level
+  number_at (kind.Command (command.OnOffChanged value)) = rw (open_is s.task) refl
+  number_at (kind.Command (command.Scene r)) = by r.level
     where
-      by : (l : Level) → number_of s (event at on (kind.Scene (record { level = l; transition_time = r.transition_time })))
-          ≡ number_by s (event at on (kind.Scene (record { level = l; transition_time = r.transition_time })))
-      by (Known level) = rw (open_is s.task, continues_is s false on (record { 0 = 0 }) (record { 0 = 0 })) refl
-      by Missing = rw (open_is s.task) refl
-  number_at (kind.DeviceUpdate level) = rw (open_is s.task) refl
-  number_at kind.DeviceStop = rw (open_is s.task) refl
-  number_at (kind.SetOnLevel level) = rw (open_is s.task, outside_is level s) refl
-  number_at (kind.SetDefaultMoveRate r) = rw (open_is s.task, rate_0_is r) refl
-  number_at (kind.SetStartUpCurrentLevel level) = rw (open_is s.task, outside_is level s) refl
-  number_at kind.FactoryReset = rw (open_is s.task) refl
+      by : (l : Level) → number_of s (event at on (kind.Command (command.Scene (record { level = l; transition_time = r.transition_time }))))
+          ≡ number_by s (event at on (kind.Command (command.Scene (record { level = l; transition_time = r.transition_time }))))
+      by (Some level) = rw (open_is s.task, continues_is s false on (record { 0 = 0 }) (record { 0 = 0 })) refl
+      by None = rw (open_is s.task) refl
+  number_at (kind.Command (command.DeviceUpdate level)) = rw (open_is s.task) refl
+  number_at (kind.Command command.DeviceStop) = rw (open_is s.task) refl
+  number_at (kind.Command (command.SetOnLevel level)) = rw (open_is s.task, outside_is level s) refl
+  number_at (kind.Command (command.SetDefaultMoveRate r)) = rw (open_is s.task, rate_0_is r) refl
+  number_at (kind.Command (command.SetStartUpCurrentLevel level)) = rw (open_is s.task, outside_is level s) refl
+  number_at (kind.Command command.FactoryReset) = rw (open_is s.task) refl
 
   -- the row of the options
   stopped_at : (k : EventKind) → stopped_in s (event at on k) ≡ stopped s (event at on k)
   unfolding command_tests_of move_to_level_tests move_tests step_tests stop_tests scene_tests level_tests rate_tests
   stopped_at kind.StartUp = refl
-  stopped_at (kind.MoveToLevel r) =
-      rw (continues_is s r.with_on_off on r.options_mask r.options_override) (or_nothing _)
-  stopped_at (kind.Move r) = rw (continues_is s r.with_on_off on r.options_mask r.options_override) (or_nothing _)
-  stopped_at (kind.Step r) = rw (continues_is s r.with_on_off on r.options_mask r.options_override) (or_nothing _)
-  stopped_at (kind.Stop r) = rw (continues_is s r.with_on_off on r.options_mask r.options_override) (or_nothing _)
+  stopped_at (kind.Command (command.MoveToLevel r)) =
+      rw (continues_is s r.options.with_on_off on r.options.options_mask r.options.options_override) (or_nothing _)
+  stopped_at (kind.Command (command.Move r)) = rw (continues_is s r.options.with_on_off on r.options.options_mask r.options.options_override) (or_nothing _)
+  stopped_at (kind.Command (command.Step r)) = rw (continues_is s r.options.with_on_off on r.options.options_mask r.options.options_override) (or_nothing _)
+  stopped_at (kind.Command (command.Stop r)) = rw (continues_is s r.with_on_off on r.options_mask r.options_override) (or_nothing _)
   stopped_at (kind.Answer a) = refl
   stopped_at kind.Wake = refl
-  stopped_at (kind.OnOffChanged value) = refl
-  stopped_at (kind.Scene r) = by r.level
+  stopped_at (kind.Command (command.OnOffChanged value)) = refl
+  stopped_at (kind.Command (command.Scene r)) = by r.level
     where
-      by : (l : Level) → stopped_in s (event at on (kind.Scene (record { level = l; transition_time = r.transition_time })))
-          ≡ stopped s (event at on (kind.Scene (record { level = l; transition_time = r.transition_time })))
-      by (Known level) = rw (continues_is s false on (record { 0 = 0 }) (record { 0 = 0 })) (or_nothing _)
-      by Missing = refl
-  stopped_at (kind.DeviceUpdate level) = refl
-  stopped_at kind.DeviceStop = refl
-  stopped_at (kind.SetOnLevel level) = refl
-  stopped_at (kind.SetDefaultMoveRate r) = refl
-  stopped_at (kind.SetStartUpCurrentLevel level) = refl
-  stopped_at kind.FactoryReset = refl
+      by : (l : Level) → stopped_in s (event at on (kind.Command (command.Scene (record { level = l; transition_time = r.transition_time }))))
+          ≡ stopped s (event at on (kind.Command (command.Scene (record { level = l; transition_time = r.transition_time }))))
+      by (Some level) = rw (continues_is s false on (record { 0 = 0 }) (record { 0 = 0 })) (or_nothing _)
+      by None = refl
+  stopped_at (kind.Command (command.DeviceUpdate level)) = refl
+  stopped_at (kind.Command command.DeviceStop) = refl
+  stopped_at (kind.Command (command.SetOnLevel level)) = refl
+  stopped_at (kind.Command (command.SetDefaultMoveRate r)) = refl
+  stopped_at (kind.Command (command.SetStartUpCurrentLevel level)) = refl
+  stopped_at (kind.Command command.FactoryReset) = refl
 
 pub number_is : (s : LevelControlState) (e : Event) → number_of s e ≡ number_by s e
-number_is s e = number_at s e.at e.on_off e.kind
+number_is s e = number_at s e.moment.at e.moment.on_off e.kind
 
 pub stopped_is : (s : LevelControlState) (e : Event) → stopped_in s e ≡ stopped s e
-stopped_is s e = stopped_at s e.at e.on_off e.kind
+stopped_is s e = stopped_at s e.moment.at e.moment.on_off e.kind

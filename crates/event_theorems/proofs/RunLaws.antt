@@ -1,4 +1,5 @@
 -- What an event that is no answer gives, by field and by letter. Assumes nothing.
+use Rattle.std.specs.Prelude.{Some, None, Result, Ok, ℕ}
 use Prim.Native.Nat.{ℕ, ◌≤◌}
 use mathlib.Core.Bool.{Bool, true, false, cond, ◌&&◌, true≢false}
 use mathlib.Core.Path.{◌≡◌, refl, sym, ap, ◌∙◌}
@@ -16,12 +17,8 @@ use Rattle.transitions.specs.Moves.{move_period}
 use Rattle.transitions.specs.RemainingTime.{remaining_time_due}
 use Rattle.transitions.specs.Tasks.{at_limit, fade_asking}
 use Rattle.transitions.specs.Types.{is_missing, level_or, time_or}
-use Rattle.transitions.specs.declared.commands.MoveRate.{MoveRate}
-use Rattle.transitions.specs.declared.commands.MoveRate.TheVariants.{Goes}
-use Rattle.transitions.specs.declared.commands.StepTime.{StepTime}
-use Rattle.transitions.specs.declared.coupling.Coupling.TheVariants.{NotSent}
-use Rattle.transitions.specs.declared.events.Action.{Action}
-use Rattle.transitions.specs.declared.events.ActionKind.TheVariants.{K, L}
+use Rattle.transitions.specs.declared.actions.Action.{Action}
+use Rattle.transitions.specs.declared.actions.ActionKind.TheVariants.{K, L}
 use Rattle.transitions.specs.declared.events.MoveRequest.{MoveRequest}
 use Rattle.transitions.specs.declared.events.MoveToLevelRequest.{MoveToLevelRequest}
 use Rattle.transitions.specs.declared.events.SceneRequest.{SceneRequest}
@@ -29,13 +26,12 @@ use Rattle.transitions.specs.declared.events.StepRequest.{StepRequest}
 use Rattle.transitions.specs.declared.settings.Attributes.{Attributes}
 use Rattle.transitions.specs.declared.tasks.Task.{Task}
 use Rattle.transitions.specs.declared.tasks.Task.TheVariants as task
-use Rattle.transitions.specs.declared.types.Level.{Level}
-use Rattle.transitions.specs.declared.types.Level.TheVariants.{Known, Missing}
+use Rattle.transitions.specs.Types.{Level}
 use Rattle.transitions.specs.declared.types.Mode.{Mode}
 use Rattle.transitions.specs.declared.types.Mode.TheVariants.{Up, Down}
 use Rattle.transitions.proofs.MatterLaws.{matter_agrees}
 use Rattle.transitions.proofs.RuleLaws.{rule_laws}
-use Rattle.transitions.specs.ActionList.{reports_of}
+use Rattle.transitions.specs.Actions.{reports_of}
 use Rattle.level_control.specs.Answer.{Outcome, done}
 use Rattle.level_control.specs.Causes.{overflows_from, step_overflows}
 use Rattle.level_control.specs.Events.{woken_in, woken}
@@ -47,7 +43,7 @@ use Rattle.level_control.specs.Rest.{start_up_or, start_up_level, start_up_at, s
 use Rattle.level_control.specs.Starts.{distance, given_or, step_in, target}
 use Rattle.level_control.specs.State.{accept, put_back, with_answered, with_attributes, with_task, with_remaining_time}
 use Rattle.level_control.specs.Targets.{quiet, request_to, go_to, moved_to_level, recalled_at, recalled, stepped_by, stepped_from, stepped, stepped_level, stepped_time, stopped}
-use Rattle.transitions.specs.declared.action_list.Reports.{Reports}
+use Rattle.transitions.specs.Actions.{Reports}
 use Rattle.level_control.specs.declared.state.LevelControlState.{LevelControlState}
 use Rattle.level_control.proofs.StartLaws.{target_is, given_is, step_is, takes}
 use Rattle.event_theorems.specs.Brings.{Brings, Command, Runs, Target, turned, scene_target, step_target}
@@ -58,10 +54,11 @@ use Rattle.event_theorems.specs.Fields.{next_state}
 use Rattle.event_theorems.specs.Letters.{couples_reached, reached, command_couples_first, command_reports, command_couples_last, leaves_min, wake_couples, letters}
 use Rattle.event_theorems.proofs.NumberLaws.{rate_is}
 use Rattle.event_theorems.proofs.CommandLaws.{goes, go_to_is, move_is, changed_to, told_letters}
+use Rattle.transitions.specs.declared.causes.Refusal.{Refusal}
 
 -- the rate in force, where it is not 0
 rate_goes : (s : LevelControlState) (r : MoveRequest) → is_invalid (rate_by s r) ≡ false
-    → rate_by s r ≡ Goes (move_rate r.rate s.attributes.default_move_rate s.settings.fastest_rate)
+    → rate_by s r ≡ Ok (move_rate r.rate s.attributes.default_move_rate s.settings.fastest_rate)
 unfolding rate_by
 rate_goes s r valid =
     matter_agrees.rate r.rate s.attributes.default_move_rate s.settings.fastest_rate
@@ -88,7 +85,7 @@ module _ (s : LevelControlState) (at : Micros) (on : Bool) where
       ∙ append_assoc (act_coupled (command_couples_first c s on)) (act_if (command_reports c s) L) (act_coupled (command_couples_last c s on) ++ course_letter (command_course s c at)))
 
   target_gives : (level : ℕ) (time : Tenths) (t T : ℕ) (with_on_off scene restores : Bool)
-      → target_level level s.settings.min_level s.settings.max_level ≡ t → time.0 ≡ T
+      → target_level level s.settings.range.min s.settings.range.max ≡ t → time.0 ≡ T
       → go_to (quiet (accept s at)) (request_to (accept s at) level time with_on_off scene restores) at on ≡ gives s (Runs (Target t T with_on_off scene restores)) at on
   unfolding reports_of accept
   target_gives level time t T with_on_off scene restores to within =
@@ -104,16 +101,16 @@ module _ (s : LevelControlState) (at : Micros) (on : Bool) where
           ++ act_if (reached s.current_level x && (restores && is_missing s.attributes.on_level)) L
 
   pub move_to_level_gives : (r : MoveToLevelRequest)
-      → moved_to_level (accept s at) r at on ≡ gives s (Runs (Target (target s r.level) (given_or r.transition_time 0) r.with_on_off false false)) at on
+      → moved_to_level (accept s at) r at on ≡ gives s (Runs (Target (target s r.level) (given_or r.transition_time 0) r.options.with_on_off false false)) at on
   unfolding moved_to_level
   move_to_level_gives r =
-      target_gives r.level (time_or r.transition_time (tenths 0)) _ _ r.with_on_off false false (target_is s r.level) (given_is r.transition_time (tenths 0))
+      target_gives r.level (time_or r.transition_time (tenths 0)) _ _ r.options.with_on_off false false (target_is s r.level) (given_is r.transition_time (tenths 0))
 
   pub turned_gives : (value : Bool) → switched (accept s at) value at on ≡ gives s (Runs (turned value s)) at on
   unfolding switched turned_on turned_off off_time accept
   turned_gives true = command_gives bring.On
   turned_gives false =
-      target_gives s.settings.min_level (off_time (accept s at)) _ _ true false true (target_is s s.settings.min_level)
+      target_gives s.settings.range.min (off_time (accept s at)) _ _ true false true (target_is s s.settings.range.min)
       (given_is s.attributes.off_transition_time s.attributes.on_off_transition_time)
 
   pub scene_gives : (r : SceneRequest) → recalled (accept s at) r at on ≡ gives s (Runs (scene_target r.level s r.transition_time.0)) at on
@@ -121,20 +118,20 @@ module _ (s : LevelControlState) (at : Micros) (on : Bool) where
   scene_gives r = by r.level
     where
       by : (l : Level) → recalled_at l (accept s at) r at on ≡ gives s (Runs (scene_target l s r.transition_time.0)) at on
-      by (Known level) = target_gives level _ _ _ false true false (target_is s level) refl
-      by Missing = command_gives bring.NoTarget
+      by (Some level) = target_gives level _ _ _ false true false (target_is s level) refl
+      by None = command_gives bring.NoTarget
 
   pub start_up_gives : started_up (accept s at) ≡ gives s (Runs bring.StartUp) at on
   unfolding started_up start_up_level accept with_task
   start_up_gives = by s.attributes.start_up_current_level ∙ command_gives bring.StartUp
     where
-      stored : (c : Level) → start_up_at c (accept s at) ≡ goes (accept s at) (course.start_up Missing c s) []
-      stored (Known level) = refl
-      stored Missing = refl
+      stored : (c : Level) → start_up_at c (accept s at) ≡ goes (accept s at) (course.start_up None c s) []
+      stored (Some level) = refl
+      stored None = refl
 
       by : (l : Level) → start_up_at (start_up_or l (accept s at)) (accept s at) ≡ goes (accept s at) (course.start_up l s.current_level s) []
-      by (Known level) = refl
-      by Missing = stored s.current_level
+      by (Some level) = refl
+      by None = stored s.current_level
 
   pub stop_gives : stopped (accept s at) ≡ gives s bring.Stops at on
   unfolding stopped write_remaining_time next_state letters course.course accept with_task with_remaining_time level_or
@@ -146,12 +143,12 @@ module _ (s : LevelControlState) (at : Micros) (on : Bool) where
   step_gives r known fits = by s.current_level known fits
     where
       by : (l : Level) → is_missing l ≡ false → overflows_from l s r ≡ false → stepped_from l (accept s at) r at on ≡ gives s (Runs (step_target l s r)) at on
-      by (Known c) known fits =
+      by (Some c) known fits =
           let (x, takes-x, within) = takes r.transition_time (distance (stepped_level s c r) c) r.step_size fits in
-          ap (λ (t : StepTime). stepped_by t (accept s at) c r at on) takes-x
-          ∙ target_gives (stepped_level s c r) x _ _ r.with_on_off false false (target_is s (stepped_level s c r) ∙ ap (target s) (step_is s c r))
+          ap (λ (t : Result Tenths Refusal). stepped_by t (accept s at) c r at on) takes-x
+          ∙ target_gives (stepped_level s c r) x _ _ r.options.with_on_off false false (target_is s (stepped_level s c r) ∙ ap (target s) (step_is s c r))
           (within ∙ ap (λ (y : ℕ). step_in r.transition_time (distance y c) r.step_size) (step_is s c r))
-      by Missing known fits = absurd (true≢false known)
+      by None known fits = absurd (true≢false known)
 
   pub move_gives : (r : MoveRequest) → is_invalid (rate_by s r) ≡ false → begin_move (accept s at) r at on ≡ gives s (Runs (bring.Move r)) at on
   unfolding begin_move at_limit rate_by move_period accept with_task reports_of
@@ -160,18 +157,18 @@ module _ (s : LevelControlState) (at : Micros) (on : Bool) where
       ∙ by (course.at_limit r.mode s.current_level s.settings)
       ∙ command_gives (bring.Move r)
     where
-      limit : (m : Mode) (l : Level) → at_limit l m s.settings.min_level s.settings.max_level ≡ course.at_limit m l s.settings
-      limit Up (Known c) = refl
-      limit Up Missing = refl
-      limit Down (Known c) = refl
-      limit Down Missing = refl
+      limit : (m : Mode) (l : Level) → at_limit l m s.settings.range.min s.settings.range.max ≡ course.at_limit m l s.settings
+      limit Up (Some c) = refl
+      limit Up None = refl
+      limit Down (Some c) = refl
+      limit Down None = refl
 
       by : (b : Bool) → cond b (done (accept s at) []) (move_at (rate_by (accept s at) r) (accept s at) r at on)
           ≡ goes (accept s at) (cond b course.AsItWas (course.step (course.course_of_move s r) r.mode s.current_level at))
-          (act_coupled (cond b NotSent (leaves_min r.mode s.current_level (course.course_of_move s r) s.settings on)))
+          (act_coupled (cond b None (leaves_min r.mode s.current_level (course.course_of_move s r) s.settings on)))
       by true = refl
       by false =
-          ap (λ (x : MoveRate). move_at x (accept s at) r at on) (rate_goes s r valid)
+          ap (λ (x : Result ℕ Refusal). move_at x (accept s at) r at on) (rate_goes s r valid)
           ∙ move_is (quiet (accept s at)) (course.course_of_move s r) at on s.current_level refl
 
   pub wake_gives : woken (accept s at) at on ≡ gives s (Runs bring.Wake) at on
@@ -192,16 +189,16 @@ module _ (s : LevelControlState) (at : Micros) (on : Bool) where
       λ stored due. record {
         stored = stored;
         scene = true;
-        coupling = NotSent;
+        coupling = None;
         level = due;
         time = remaining_time_due s.remaining_time (tenths 0) false;
       } in
       ap (λ (l : List Action). done (next_state s (bring.Updates level) at) l)
-      (ap (λ (b : Bool). reports_of (changes b (level_due (accept s at) (Known level) at true))) (changed_to s.current_level level)
-      ∙ ap (λ (b : Bool). reports_of (changes (changed s.current_level (Known level)) b))
-      (rule_laws.end_report second s.last_current_level_notification at s.current_level (Known level))
+      (ap (λ (b : Bool). reports_of (changes b (level_due (accept s at) (Some level) at true))) (changed_to s.current_level level)
+      ∙ ap (λ (b : Bool). reports_of (changes (changed s.current_level (Some level)) b))
+      (rule_laws.end_report second s.last_current_level_notification at s.current_level (Some level))
       ∙ sym (append-nil _)
-      ∙ told_letters (changes (changed s.current_level (Known level)) true) [])
+      ∙ told_letters (changes (changed s.current_level (Some level)) true) [])
 
   pub set_gives : (a : Attributes) → done (with_attributes (accept s at) a) (act K 0) ≡ gives s (bring.Sets a) at on
   unfolding next_state letters course.course accept with_attributes level_or

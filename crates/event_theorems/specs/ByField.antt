@@ -1,4 +1,4 @@
--- What every event gives in every state: its number cause by cause, the state field by field, the actions letter by letter.
+-- Every event: its number cause by cause, the state field by field, the actions letter by letter.
 use Rattle.std.specs.Prelude.{Bool, true, false, ◌&&◌, ◌||◌, ◌≡◌, List, [], ◌∷◌, eqb}
 use Rattle.units.specs.declared.Micros.{Micros}
 use Rattle.transitions.specs.Causes.{Row}
@@ -17,27 +17,17 @@ options_meet [] = false
 options_meet (r ∷ rs) = (eqb r.number 0 && r.applies) || options_meet rs
 
 abbrev pub stopped : LevelControlState → Event → Bool
-stopped s e = options_meet (command_rows s e.on_off e.kind)
+stopped s e = options_meet (command_rows s e.moment.on_off e.kind)
 
 -- all as it was but the last accepted time, and that an event was accepted
 abbrev pub only_accepted : LevelControlState → Micros → LevelControlState
-only_accepted s at = record {
-  settings = s.settings;
-  attributes = s.attributes;
-  current_level = s.current_level;
-  remaining_time = s.remaining_time;
-  previous_current_level = s.previous_current_level;
-  last_current_level_notification = s.last_current_level_notification;
-  last_accepted = at;
-  started = true;
-  task = s.task;
-}
+only_accepted s at = record s { last_accepted = at; started = true }
 
 pub record ByField : Type 0 where
-  -- "a refused event changes nothing": its number is that of the first cause that meets it
+  -- a refused event changes nothing: its number is that of the first cause that meets it
   pub refuses : (s : LevelControlState) (e : Event) → (number_by s e ≡ 0 → ⊥) → event_of s e ≡ refused s (number_by s e)
-  -- "an event the options stop is accepted with number 0, no action, and a running task goes on"
-  pub stops : (s : LevelControlState) (e : Event) → number_by s e ≡ 0 → stopped s e ≡ true → event_of s e ≡ done (only_accepted s e.at) []
+  -- an event that the options stop is accepted with number 0 and no action, and the running task goes on
+  pub stops : (s : LevelControlState) (e : Event) → number_by s e ≡ 0 → stopped s e ≡ true → event_of s e ≡ done (only_accepted s e.moment.at) []
   -- any other event is accepted, and gives what its kind brings
   pub runs : (s : LevelControlState) (e : Event) → number_by s e ≡ 0 → stopped s e ≡ false
-      → event_of s e ≡ done (next_state s (brings s e.kind) e.at) (letters s (brings s e.kind) e.at e.on_off)
+      → event_of s e ≡ done (next_state s (brings s e.kind) e.moment.at) (letters s (brings s e.kind) e.moment.at e.moment.on_off)

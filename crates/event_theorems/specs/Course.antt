@@ -1,17 +1,16 @@
--- How an accepted event that no options stop leaves the task, and the letter that goes with it: D, W or E. The machine uses nothing of this page.
-use Rattle.std.specs.Prelude.{ℕ, ◌+◌, ◌-◌, ◌*◌, ◌/◌, min, max, Bool, true, false, cond, List, [], eqb, leb, ltb}
+-- Every event: how an accepted one that no options stop leaves the task, and the letter that goes with it: D, W or E. The machine uses nothing of this page.
+use Rattle.std.specs.Prelude.{ℕ, ◌+◌, ◌-◌, ◌*◌, ◌/◌, min, max, Bool, true, false, cond, List, [], eqb, leb, ltb, Some, None}
 use Rattle.units.specs.Units.{tenths, millis, micros}
 use Rattle.units.specs.declared.Micros.{Micros}
 use Rattle.transitions.specs.Events.{act}
 use Rattle.transitions.specs.Fade.{next_level}
 use Rattle.transitions.specs.Matter.{move_rate}
-use Rattle.transitions.specs.declared.events.Action.{Action}
-use Rattle.transitions.specs.declared.events.ActionKind.TheVariants.{D, W, E}
+use Rattle.transitions.specs.declared.actions.Action.{Action}
+use Rattle.transitions.specs.declared.actions.ActionKind.TheVariants.{D, W, E}
 use Rattle.transitions.specs.declared.events.DeviceAnswer.{DeviceAnswer}
 use Rattle.transitions.specs.declared.events.DeviceAnswer.TheVariants as device
 use Rattle.transitions.specs.declared.events.MoveRequest.{MoveRequest}
 use Rattle.transitions.specs.declared.settings.Settings.{Settings}
-use Rattle.transitions.specs.declared.tasks.AfterFade.TheVariants.{Stay, Restore}
 use Rattle.transitions.specs.declared.tasks.Fade.{Fade}
 use Rattle.transitions.specs.declared.tasks.Move.{Move}
 use Rattle.transitions.specs.declared.tasks.MoveCourse.{MoveCourse}
@@ -19,8 +18,7 @@ use Rattle.transitions.specs.declared.tasks.Phase.{Phase}
 use Rattle.transitions.specs.declared.tasks.Phase.TheVariants.{Asked, Waiting}
 use Rattle.transitions.specs.declared.tasks.Task.{Task}
 use Rattle.transitions.specs.declared.tasks.Task.TheVariants as task
-use Rattle.transitions.specs.declared.types.Level.{Level}
-use Rattle.transitions.specs.declared.types.Level.TheVariants.{Known, Missing}
+use Rattle.transitions.specs.Types.{Level}
 use Rattle.transitions.specs.declared.types.Mode.{Mode}
 use Rattle.transitions.specs.declared.types.Mode.TheVariants.{Up, Down}
 use Rattle.level_control.specs.Starts.{distance, given_or, target}
@@ -54,7 +52,7 @@ course_letter (Waits until t) = act W until
 
 -- Fades.
 
--- part 7: a fade from c to t in T tenths: "n = |t − c|; period = 100·T ÷ n milliseconds, rounded down"; "T = 0: one request, t", else the counter moves by one from c
+-- from c to t in T tenths: n = |t − c|, the period 100·T ÷ n milliseconds, rounded down. T = 0: the one request is for t; else the counter moves by one from c
 abbrev pub fade_over : ℕ → ℕ → ℕ → Bool → Bool → Bool → Micros → Fade
 fade_over c t T with_on_off scene restores now = record {
   with_on_off = with_on_off;
@@ -64,42 +62,32 @@ fade_over c t T with_on_off scene restores now = record {
   transition_time = tenths T;
   remaining = millis (T * 100);
   period = millis (T * 100 / distance t c);
-  after = cond restores (Restore c) Stay;
+  after = cond restores (Some c) None;
   phase = Asked now;
 }
 
--- part 6: "a target equal to the current level ends the running task"; E 11 "for a fade or move from a missing level"
+-- Targets: one equal to the current level ends the running task; from a missing level E11
 abbrev pub towards : Level → ℕ → ℕ → Bool → Bool → Bool → Micros → Course
-towards (Known c) t T with_on_off scene restores now =
+towards (Some c) t T with_on_off scene restores now =
     cond (eqb c t) AtRest
     (Asks (next_level c t (tenths T)) (task.Fade (fade_over c t T with_on_off scene restores now)))
-towards Missing t T with_on_off scene restores now = Fails 11
+towards None t T with_on_off scene restores now = Fails 11
 
 -- the same fade, with this much of it left, this level asked for last, in this phase
 abbrev pub fade_at : Fade → ℕ → ℕ → Phase → Fade
-fade_at f remaining counter phase = record {
-  with_on_off = f.with_on_off;
-  scene_apply = f.scene_apply;
-  target = f.target;
-  counter = counter;
-  transition_time = f.transition_time;
-  remaining = millis remaining;
-  period = f.period;
-  after = f.after;
-  phase = phase;
-}
+fade_at f remaining counter phase = record f { counter = counter; remaining = millis remaining; phase = phase }
 
 abbrev pub fade_asks : Fade → ℕ → Micros → Course
 fade_asks f remaining now =
     let level = next_level f.counter f.target f.transition_time in
     Asks level (task.Fade (fade_at f remaining level (Asked now)))
 
--- "request time + period"; beyond 2^64 − 1, which no play reaches, it is held there
+-- the request's time + the period; beyond 2^64 − 1, which no play reaches, it is held there
 abbrev pub until : Micros → ℕ → ℕ
 until since span = min 18446744073709551615 (since.0 + span)
 
--- "before the end, remaining falls by the period after each answer"; "wait is until request time + period if period ≥ answer time − request time; otherwise the next
--- request is made at once"
+-- the unrounded remaining time falls by the period at each answer before the end. The fade waits until the request's time + the period if
+-- period ≥ answer's time − request's time; otherwise the next request is made at once
 abbrev pub fade_on : Fade → Phase → Micros → Course
 fade_on f (Asked since) now =
     let span = f.period.0 * 1000 in
@@ -116,27 +104,27 @@ fade_answer device.Failed f now = Fails 15
 
 -- Moves.
 
--- part 8: "steps from the stored level"; it ends where it "would pass 0 or 255"; E 11 from a missing level
+-- from the stored level by one; it ends where it would pass 0 or 255; E11 from a missing level
 abbrev pub step : MoveCourse → Mode → Level → Micros → Course
-step m Up (Known c) now =
+step m Up (Some c) now =
     cond (ltb c 255) (Asks (c + 1) (task.Move (record { course = m; asked = c + 1; phase = Asked now }))) AtRest
-step m Down (Known c) now =
+step m Down (Some c) now =
     cond (ltb 0 c) (Asks (c - 1) (task.Move (record { course = m; asked = c - 1; phase = Asked now }))) AtRest
-step m Up Missing now = Fails 11
-step m Down Missing now = Fails 11
+step m Up None now = Fails 11
+step m Down None now = Fails 11
 
--- part 6: "at MIN going down or MAX going up nothing happens"
+-- at MIN going down or at MAX going up nothing happens
 abbrev pub at_limit : Mode → Level → Settings → Bool
-at_limit Up (Known c) settings = eqb c settings.max_level
-at_limit Down (Known c) settings = eqb c settings.min_level
-at_limit Up Missing settings = false
-at_limit Down Missing settings = false
+at_limit Up (Some c) settings = eqb c settings.range.max
+at_limit Down (Some c) settings = eqb c settings.range.min
+at_limit Up None settings = false
+at_limit Down None settings = false
 
--- part 8: "period = (1,000,000 + rate ÷ 2) ÷ rate µs"
+-- the period is (1,000,000 + rate ÷ 2) ÷ rate µs
 abbrev pub course_of_move : LevelControlState → MoveRequest → MoveCourse
 course_of_move s r =
     let rate = move_rate r.rate s.attributes.default_move_rate s.settings.fastest_rate in
-    record { with_on_off = r.with_on_off; mode = r.mode; period = micros ((1000000 + rate / 2) / rate) }
+    record { with_on_off = r.options.with_on_off; mode = r.mode; period = micros ((1000000 + rate / 2) / rate) }
 
 abbrev pub move_on : Move → Phase → Level → Micros → Course
 move_on m (Asked since) level now =
@@ -147,19 +135,19 @@ move_on m (Asked since) level now =
 move_on m (Waiting end) level now = AsItWas
 
 abbrev pub move_answer : DeviceAnswer → Move → LevelControlState → Micros → Course
-move_answer (device.Level v) m s now = cond (is_end m.asked s.settings) AtRest (move_on m m.phase (Known v) now)
+move_answer (device.Level v) m s now = cond (is_end m.asked s.settings) AtRest (move_on m m.phase (Some v) now)
 move_answer device.Missing m s now = Fails 15
 move_answer device.Failed m s now = Fails 15
 
 -- The reaction to on.
 
--- part 9: "then a with-on-off fade to `on_level`, else to the level before"; E 15 "on with nothing to return to"
+-- the on level, else the level before, is a target; with both missing, E15
 abbrev pub on_towards : Level → Level → ℕ → LevelControlState → Micros → Course
-on_towards (Known level) before v s now =
-    towards (Known v) (target s level) (given_or s.attributes.on_transition_time s.attributes.on_off_transition_time.0) true false false now
-on_towards Missing (Known level) v s now =
-    towards (Known v) (target s level) (given_or s.attributes.on_transition_time s.attributes.on_off_transition_time.0) true false false now
-on_towards Missing Missing v s now = Fails 15
+on_towards (Some level) before v s now =
+    towards (Some v) (target s level) (given_or s.attributes.on_transition_time s.attributes.on_off_transition_time.0) true false false now
+on_towards None (Some level) v s now =
+    towards (Some v) (target s level) (given_or s.attributes.on_transition_time s.attributes.on_off_transition_time.0) true false false now
+on_towards None None v s now = Fails 15
 
 abbrev pub on_answer : DeviceAnswer → Level → LevelControlState → Micros → Course
 on_answer (device.Level v) before s now = on_towards s.attributes.on_level before v s now
@@ -168,11 +156,11 @@ on_answer device.Failed before s now = Fails 15
 
 -- Events.
 
--- part 10: "start-up asks for the start-up level clamped to MIN..MAX, else the stored one, else nothing"
+-- Start-up: the device is asked for the start-up level held to MIN..MAX, else for the stored level as it is, else for nothing
 abbrev pub start_up : Level → Level → LevelControlState → Course
-start_up (Known level) stored s = Asks (min s.settings.max_level (max s.settings.min_level level)) task.StartUp
-start_up Missing (Known level) s = Asks level task.StartUp
-start_up Missing Missing s = AsItWas
+start_up (Some level) stored s = Asks (min s.settings.range.max (max s.settings.range.min level)) task.StartUp
+start_up None (Some level) s = Asks level task.StartUp
+start_up None None s = AsItWas
 
 abbrev pub wake : Task → LevelControlState → Micros → Course
 wake task.Rest s now = AsItWas
@@ -187,7 +175,7 @@ command_course s (bring.Target t T with_on_off scene restores) now = towards s.c
 command_course s bring.NoTarget now = AsItWas
 command_course s (bring.Move r) now =
     cond (at_limit r.mode s.current_level s.settings) AsItWas (step (course_of_move s r) r.mode s.current_level now)
-command_course s bring.On now = Asks s.settings.min_level (task.OnReaction (record { before = s.current_level }))
+command_course s bring.On now = Asks s.settings.range.min (task.OnReaction (record { before = s.current_level }))
 command_course s bring.Wake now = wake s.task s now
 
 abbrev pub answer_course : Task → LevelControlState → DeviceAnswer → Micros → Course

@@ -1,5 +1,5 @@
--- What an accepted event that no options stop leaves in each field of the state. The machine uses nothing of this page.
-use Rattle.std.specs.Prelude.{◌-◌, Bool, true, false, cond, ◌||◌, eqb, leb}
+-- Every event: what an accepted one that no options stop leaves in each field of the state. The machine uses nothing of this page.
+use Rattle.std.specs.Prelude.{◌-◌, Bool, true, false, cond, ◌||◌, eqb, leb, None}
 use Rattle.units.specs.Units.{tenths, millis, micros, tenths_up}
 use Rattle.units.specs.declared.Micros.{Micros}
 use Rattle.units.specs.declared.Tenths.{Tenths}
@@ -10,8 +10,7 @@ use Rattle.transitions.specs.declared.settings.Attributes.{Attributes}
 use Rattle.transitions.specs.declared.tasks.Fade.{Fade}
 use Rattle.transitions.specs.declared.tasks.Task.{Task}
 use Rattle.transitions.specs.declared.tasks.Task.TheVariants as task
-use Rattle.transitions.specs.declared.types.Level.{Level}
-use Rattle.transitions.specs.declared.types.Level.TheVariants.{Missing}
+use Rattle.transitions.specs.Types.{Level}
 use Rattle.level_control.specs.declared.state.LevelControlState.{LevelControlState}
 use Rattle.event_theorems.specs.Brings.{Brings, Tells, Nothing, Told, Failure, AtStartUp, tells, stored_back}
 use Rattle.event_theorems.specs.Brings as bring
@@ -37,18 +36,18 @@ noted (Told level end) s = s.current_level
 noted Failure s = s.current_level
 noted (AtStartUp level) s = s.previous_current_level
 
--- a reset puts "the noted previous level to missing"
+-- a reset makes it missing
 abbrev pub previous_after : LevelControlState → Brings → Level
 previous_after s (bring.Runs c) = noted (tells s (bring.Runs c)) s
 previous_after s bring.Stops = noted (tells s bring.Stops) s
 previous_after s (bring.Answers a) = noted (tells s (bring.Answers a)) s
 previous_after s (bring.Updates level) = noted (tells s (bring.Updates level)) s
 previous_after s (bring.Sets a) = noted (tells s (bring.Sets a)) s
-previous_after s bring.Resets = Missing
+previous_after s bring.Resets = None
 
 -- The last-report time.
 
--- part 4: "a level report is due if 1,000,000 µs or more have passed since the last due report (0 at first), or the fade ends, or the old or new level is missing"
+-- Level reports: due if 1,000,000 µs or more have passed since the last-report time, or at an end, or where the old level or the new one is missing
 abbrev pub report_due : Tells → LevelControlState → Micros → Bool
 report_due Nothing s now = false
 report_due (Told level end) s now =
@@ -56,7 +55,7 @@ report_due (Told level end) s now =
 report_due Failure s now = false
 report_due (AtStartUp level) s now = false
 
--- "then the last-report time becomes now"
+-- then the last-report time becomes now. It is 0 at first
 abbrev pub reported_at : LevelControlState → Brings → Micros → Micros
 reported_at s b now = cond (report_due (tells s b) s now) now s.last_current_level_notification
 
@@ -70,13 +69,13 @@ reported_after s bring.Resets now = micros 0
 
 -- The remaining time.
 
--- part 7: "before the end, remaining falls by the period after each answer; at the end 0 is written"; part 2: "tenths = milliseconds ÷ 100 rounded up"
+-- Fades: the unrounded remaining time falls by the period at each answer before the end, and is 0 at the end. It is written in tenths, rounded up
 abbrev pub fade_time : DeviceAnswer → Fade → Tenths → Tenths
 fade_time (device.Level v) f before = cond (eqb f.counter f.target) (tenths 0) (tenths_up (millis (f.remaining.0 - f.period.0)))
 fade_time device.Missing f before = before
 fade_time device.Failed f before = before
 
--- in a move "remaining time is never written"
+-- a move never writes it
 abbrev pub answer_time : Task → DeviceAnswer → Tenths → Tenths
 answer_time task.Rest a before = before
 answer_time task.StartUp a before = before
@@ -93,7 +92,7 @@ time_after s (bring.Updates level) = tenths 0
 time_after s (bring.Sets a) = s.remaining_time
 time_after s bring.Resets = tenths 0
 
--- The attributes: a reset "puts settings back to the configured".
+-- The attributes: a reset puts them back to the configured.
 abbrev pub attributes_after : LevelControlState → Brings → Attributes
 attributes_after s (bring.Runs c) = s.attributes
 attributes_after s bring.Stops = s.attributes

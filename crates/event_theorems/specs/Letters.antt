@@ -1,15 +1,13 @@
--- When each letter stands among the actions of an accepted event that no options stop. The machine uses nothing of this page.
-use Rattle.std.specs.Prelude.{ℕ, ◌+◌, ◌-◌, ◌*◌, Bool, true, false, cond, not, ◌&&◌, ◌||◌, List, [], ◌++◌, eqb, leb, ltb}
+-- Every event: when each letter stands among the actions of an accepted one that no options stop. The machine uses nothing of this page.
+use Rattle.std.specs.Prelude.{ℕ, ◌+◌, ◌-◌, ◌*◌, Bool, true, false, cond, not, ◌&&◌, ◌||◌, List, [], ◌++◌, eqb, leb, ltb, Option, Some, None}
 use Rattle.units.specs.declared.Micros.{Micros}
 use Rattle.transitions.specs.Coupling.{coupled_on_off}
 use Rattle.transitions.specs.Events.{act, act_if, act_coupled}
 use Rattle.transitions.specs.Matter.{changed}
 use Rattle.transitions.specs.RemainingTime.{remaining_time_due}
 use Rattle.transitions.specs.Types.{is_missing}
-use Rattle.transitions.specs.declared.coupling.Coupling.{Coupling}
-use Rattle.transitions.specs.declared.coupling.Coupling.TheVariants.{NotSent}
-use Rattle.transitions.specs.declared.events.Action.{Action}
-use Rattle.transitions.specs.declared.events.ActionKind.TheVariants.{P, S, L, R, K, X}
+use Rattle.transitions.specs.declared.actions.Action.{Action}
+use Rattle.transitions.specs.declared.actions.ActionKind.TheVariants.{P, S, L, R, K, X}
 use Rattle.transitions.specs.declared.events.DeviceAnswer.{DeviceAnswer}
 use Rattle.transitions.specs.declared.events.DeviceAnswer.TheVariants as device
 use Rattle.transitions.specs.declared.settings.Settings.{Settings}
@@ -20,8 +18,7 @@ use Rattle.transitions.specs.declared.tasks.Phase.{Phase}
 use Rattle.transitions.specs.declared.tasks.Phase.TheVariants.{Asked, Waiting}
 use Rattle.transitions.specs.declared.tasks.Task.{Task}
 use Rattle.transitions.specs.declared.tasks.Task.TheVariants as task
-use Rattle.transitions.specs.declared.types.Level.{Level}
-use Rattle.transitions.specs.declared.types.Level.TheVariants.{Known, Missing}
+use Rattle.transitions.specs.Types.{Level}
 use Rattle.transitions.specs.declared.types.Mode.{Mode}
 use Rattle.transitions.specs.declared.types.Mode.TheVariants.{Up, Down}
 use Rattle.level_control.specs.Starts.{target}
@@ -31,7 +28,7 @@ use Rattle.event_theorems.specs.Brings as bring
 use Rattle.event_theorems.specs.Course.{at_limit, course_of_move, course, course_letter}
 use Rattle.event_theorems.specs.Fields.{level_told, report_due, time_after}
 
--- P: "only if the level changed"
+-- P: only if the level changed
 
 abbrev pub changes : Tells → Level → Bool
 changes Nothing before = false
@@ -39,7 +36,7 @@ changes (Told level end) before = changed before level
 changes Failure before = false
 changes (AtStartUp level) before = changed before level
 
--- S: with a level that is told, "not for scene fades"
+-- S: with a level that is told, but not in the fade of a scene
 
 abbrev pub of_scene : Task → Bool
 of_scene task.Rest = false
@@ -62,114 +59,114 @@ notices s (bring.Updates level) = true
 notices s (bring.Sets a) = false
 notices s bring.Resets = false
 
--- C: part 5.
+-- C: Coupling.
 
-abbrev pub couples : Settings → Bool → Bool → ℕ → Coupling
-couples settings with_on_off on level = coupled_on_off with_on_off settings.coupled on settings.min_level level
+abbrev pub couples : Settings → Bool → Bool → ℕ → Option Bool
+couples settings with_on_off on level = coupled_on_off with_on_off settings.coupled on settings.range.min level
 
--- "a target equal to the current level .. couples", by the target
+-- a target equal to the current level couples at once, by the target
 abbrev pub reached : Level → ℕ → Bool
-reached (Known c) t = eqb c t
-reached Missing t = false
+reached (Some c) t = eqb c t
+reached None t = false
 
-abbrev pub couples_reached : Level → ℕ → Bool → Settings → Bool → Coupling
-couples_reached level t with_on_off settings on = cond (reached level t) (couples settings with_on_off on t) NotSent
+abbrev pub couples_reached : Level → ℕ → Bool → Settings → Bool → Option Bool
+couples_reached level t with_on_off settings on = cond (reached level t) (couples settings with_on_off on t) None
 
--- a fade couples "at start and end", by the answered level; "'start' holds while the unrounded remaining time equals 100·T"
-abbrev pub fade_couples : DeviceAnswer → Fade → LevelControlState → Bool → Coupling
+-- a fade couples at its start and at its end, by the answered level. Start holds while the unrounded remaining time equals 100·T
+abbrev pub fade_couples : DeviceAnswer → Fade → LevelControlState → Bool → Option Bool
 fade_couples (device.Level v) f s on =
-    cond (eqb f.remaining.0 (f.transition_time.0 * 100) || eqb f.counter f.target) (couples s.settings f.with_on_off on v) NotSent
-fade_couples device.Missing f s on = NotSent
-fade_couples device.Failed f s on = NotSent
+    cond (eqb f.remaining.0 (f.transition_time.0 * 100) || eqb f.counter f.target) (couples s.settings f.with_on_off on v) None
+fade_couples device.Missing f s on = None
+fade_couples device.Failed f s on = None
 
--- a move "couples before asking when it leaves MIN upwards", by the asked level
-abbrev pub leaves_min : Mode → Level → MoveCourse → Settings → Bool → Coupling
-leaves_min Up (Known c) m settings on = cond (eqb c settings.min_level && ltb c 255) (couples settings m.with_on_off on (c + 1)) NotSent
-leaves_min Up Missing m settings on = NotSent
-leaves_min Down level m settings on = NotSent
+-- a move couples before each request that leaves MIN upwards, by the asked level
+abbrev pub leaves_min : Mode → Level → MoveCourse → Settings → Bool → Option Bool
+leaves_min Up (Some c) m settings on = cond (eqb c settings.range.min && ltb c 255) (couples settings m.with_on_off on (c + 1)) None
+leaves_min Up None m settings on = None
+leaves_min Down level m settings on = None
 
-abbrev pub move_on_couples : Move → Phase → ℕ → Settings → Bool → Micros → Coupling
+abbrev pub move_on_couples : Move → Phase → ℕ → Settings → Bool → Micros → Option Bool
 move_on_couples m (Asked since) v settings on now =
-    cond (leb (now.0 - since.0) m.course.period.0) NotSent (leaves_min m.course.mode (Known v) m.course settings on)
-move_on_couples m (Waiting until) v settings on now = NotSent
+    cond (leb (now.0 - since.0) m.course.period.0) None (leaves_min m.course.mode (Some v) m.course settings on)
+move_on_couples m (Waiting until) v settings on now = None
 
 -- and at its end, by the answered level
-abbrev pub move_couples : DeviceAnswer → Move → Settings → Bool → Micros → Coupling
+abbrev pub move_couples : DeviceAnswer → Move → Settings → Bool → Micros → Option Bool
 move_couples (device.Level v) m settings on now =
     cond (is_end m.asked settings) (couples settings m.course.with_on_off on v) (move_on_couples m m.phase v settings on now)
-move_couples device.Missing m settings on now = NotSent
-move_couples device.Failed m settings on now = NotSent
+move_couples device.Missing m settings on now = None
+move_couples device.Failed m settings on now = None
 
--- "C on the on reaction's first answer, its target already reached"
-abbrev pub on_reached : Level → Level → ℕ → LevelControlState → Bool → Coupling
-on_reached (Known level) before v s on = couples_reached (Known v) (target s level) true s.settings on
-on_reached Missing (Known level) v s on = couples_reached (Known v) (target s level) true s.settings on
-on_reached Missing Missing v s on = NotSent
+-- after on's request, where the target is already reached
+abbrev pub on_reached : Level → Level → ℕ → LevelControlState → Bool → Option Bool
+on_reached (Some level) before v s on = couples_reached (Some v) (target s level) true s.settings on
+on_reached None (Some level) v s on = couples_reached (Some v) (target s level) true s.settings on
+on_reached None None v s on = None
 
-abbrev pub on_couples : DeviceAnswer → Level → LevelControlState → Bool → Coupling
+abbrev pub on_couples : DeviceAnswer → Level → LevelControlState → Bool → Option Bool
 on_couples (device.Level v) before s on = on_reached s.attributes.on_level before v s on
-on_couples device.Missing before s on = NotSent
-on_couples device.Failed before s on = NotSent
+on_couples device.Missing before s on = None
+on_couples device.Failed before s on = None
 
-abbrev pub wake_couples : Task → LevelControlState → Bool → Coupling
-wake_couples task.Rest s on = NotSent
-wake_couples task.StartUp s on = NotSent
-wake_couples (task.Fade f) s on = NotSent
+abbrev pub wake_couples : Task → LevelControlState → Bool → Option Bool
+wake_couples task.Rest s on = None
+wake_couples task.StartUp s on = None
+wake_couples (task.Fade f) s on = None
 wake_couples (task.Move m) s on = leaves_min m.course.mode s.current_level m.course s.settings on
-wake_couples (task.OnReaction r) s on = NotSent
+wake_couples (task.OnReaction r) s on = None
 
 -- before L and R: a fade's answer, and a command whose target is reached
 
-abbrev pub task_couples_first : Task → DeviceAnswer → LevelControlState → Bool → Coupling
-task_couples_first task.Rest a s on = NotSent
-task_couples_first task.StartUp a s on = NotSent
+abbrev pub task_couples_first : Task → DeviceAnswer → LevelControlState → Bool → Option Bool
+task_couples_first task.Rest a s on = None
+task_couples_first task.StartUp a s on = None
 task_couples_first (task.Fade f) a s on = fade_couples a f s on
-task_couples_first (task.Move m) a s on = NotSent
-task_couples_first (task.OnReaction r) a s on = NotSent
+task_couples_first (task.Move m) a s on = None
+task_couples_first (task.OnReaction r) a s on = None
 
-abbrev pub command_couples_first : Command → LevelControlState → Bool → Coupling
-command_couples_first bring.StartUp s on = NotSent
+abbrev pub command_couples_first : Command → LevelControlState → Bool → Option Bool
+command_couples_first bring.StartUp s on = None
 command_couples_first (bring.Target t T with_on_off scene restores) s on = couples_reached s.current_level t with_on_off s.settings on
-command_couples_first bring.NoTarget s on = NotSent
-command_couples_first (bring.Move r) s on = NotSent
-command_couples_first bring.On s on = NotSent
-command_couples_first bring.Wake s on = NotSent
+command_couples_first bring.NoTarget s on = None
+command_couples_first (bring.Move r) s on = None
+command_couples_first bring.On s on = None
+command_couples_first bring.Wake s on = None
 
-abbrev pub couples_first : LevelControlState → Brings → Bool → Coupling
+abbrev pub couples_first : LevelControlState → Brings → Bool → Option Bool
 couples_first s (bring.Runs c) on = command_couples_first c s on
-couples_first s bring.Stops on = NotSent
+couples_first s bring.Stops on = None
 couples_first s (bring.Answers a) on = task_couples_first s.task a s on
-couples_first s (bring.Updates level) on = NotSent
-couples_first s (bring.Sets a) on = NotSent
-couples_first s bring.Resets on = NotSent
+couples_first s (bring.Updates level) on = None
+couples_first s (bring.Sets a) on = None
+couples_first s bring.Resets on = None
 
 -- after them: a move, and the on reaction's answer
 
-abbrev pub task_couples_last : Task → DeviceAnswer → LevelControlState → Bool → Micros → Coupling
-task_couples_last task.Rest a s on now = NotSent
-task_couples_last task.StartUp a s on now = NotSent
-task_couples_last (task.Fade f) a s on now = NotSent
+abbrev pub task_couples_last : Task → DeviceAnswer → LevelControlState → Bool → Micros → Option Bool
+task_couples_last task.Rest a s on now = None
+task_couples_last task.StartUp a s on now = None
+task_couples_last (task.Fade f) a s on now = None
 task_couples_last (task.Move m) a s on now = move_couples a m s.settings on now
 task_couples_last (task.OnReaction r) a s on now = on_couples a r.before s on
 
-abbrev pub command_couples_last : Command → LevelControlState → Bool → Coupling
-command_couples_last bring.StartUp s on = NotSent
-command_couples_last (bring.Target t T with_on_off scene restores) s on = NotSent
-command_couples_last bring.NoTarget s on = NotSent
+abbrev pub command_couples_last : Command → LevelControlState → Bool → Option Bool
+command_couples_last bring.StartUp s on = None
+command_couples_last (bring.Target t T with_on_off scene restores) s on = None
+command_couples_last bring.NoTarget s on = None
 command_couples_last (bring.Move r) s on =
-    cond (at_limit r.mode s.current_level s.settings) NotSent (leaves_min r.mode s.current_level (course_of_move s r) s.settings on)
-command_couples_last bring.On s on = NotSent
+    cond (at_limit r.mode s.current_level s.settings) None (leaves_min r.mode s.current_level (course_of_move s r) s.settings on)
+command_couples_last bring.On s on = None
 command_couples_last bring.Wake s on = wake_couples s.task s on
 
-abbrev pub couples_last : LevelControlState → Brings → Bool → Micros → Coupling
+abbrev pub couples_last : LevelControlState → Brings → Bool → Micros → Option Bool
 couples_last s (bring.Runs c) on now = command_couples_last c s on
-couples_last s bring.Stops on now = NotSent
+couples_last s bring.Stops on now = None
 couples_last s (bring.Answers a) on now = task_couples_last s.task a s on now
-couples_last s (bring.Updates level) on now = NotSent
-couples_last s (bring.Sets a) on now = NotSent
-couples_last s bring.Resets on now = NotSent
+couples_last s (bring.Updates level) on now = None
+couples_last s (bring.Sets a) on now = None
+couples_last s bring.Resets on now = None
 
--- L: part 4, but "a missing answer gives P, S, E in a fade"; and off with no on level: "a target already reached counts as a finished fade", and the level is reported
+-- L: Level reports. A missing answer in a fade tells none. An off with no on level and its target already reached tells it
 
 abbrev pub may_report : Task → DeviceAnswer → Bool
 may_report task.Rest a = false
@@ -196,7 +193,7 @@ reports_level s (bring.Updates level) now = true
 reports_level s (bring.Sets a) now = false
 reports_level s bring.Resets now = false
 
--- R: part 2, between the time before and the time after; "'start' holds while the unrounded remaining time equals 100·T"
+-- R: Remaining time, of the time before and the time after. Start holds while the unrounded remaining time equals 100·T
 
 abbrev pub fade_reports : DeviceAnswer → Fade → LevelControlState → Brings → Bool
 fade_reports (device.Level v) f s b = remaining_time_due s.remaining_time (time_after s b) (eqb f.remaining.0 (f.transition_time.0 * 100))
@@ -218,12 +215,12 @@ reports_time s (bring.Updates level) = remaining_time_due s.remaining_time (time
 reports_time s (bring.Sets a) = false
 reports_time s bring.Resets = false
 
--- "the off restore adds P, L"
+-- P L, of a level that an off fade puts back
 abbrev pub back_letters : Level → Level → List Action
-back_letters (Known before) told = act_if (changed told (Known before)) P ++ act L 0
-back_letters Missing told = []
+back_letters (Some before) told = act_if (changed told (Some before)) P ++ act L 0
+back_letters None told = []
 
--- K: "setting to be stored"; X: "cluster reported, record removed"
+-- K: a setting is to be stored; X: the cluster is reported, its record removed
 abbrev pub setting_letter : Brings → List Action
 setting_letter (bring.Runs c) = []
 setting_letter bring.Stops = []

@@ -1,5 +1,5 @@
--- "Causes and numbers" of document 01 from 5 on: 5 to 9 cause by cause, 10 to 14 and the options by the kinds that they may meet. The machine uses nothing of this page.
-use Rattle.std.specs.Prelude.{ℕ, ◌*◌, Bool, true, false, not, ◌&&◌, ◌||◌, List, [], ◌∷◌, eqb, leb, ltb}
+-- Causes, from 5 on: 5 to 9 cause by cause, 10 to 14 and the options by the kinds that they may meet. The machine uses nothing of this page.
+use Rattle.std.specs.Prelude.{ℕ, ◌*◌, Bool, true, false, not, ◌&&◌, ◌||◌, List, [], ◌∷◌, eqb, leb, ltb, Some, None}
 use Rattle.units.specs.declared.Micros.{Micros}
 use Rattle.transitions.specs.Causes.{Row, row}
 use Rattle.transitions.specs.Matter.{move_rate}
@@ -13,32 +13,30 @@ use Rattle.transitions.specs.declared.tasks.Phase.{Phase}
 use Rattle.transitions.specs.declared.tasks.Phase.TheVariants.{Asked, Waiting}
 use Rattle.transitions.specs.declared.tasks.Task.{Task}
 use Rattle.transitions.specs.declared.tasks.Task.TheVariants as task
-use Rattle.transitions.specs.declared.types.Level.{Level}
-use Rattle.transitions.specs.declared.types.Level.TheVariants.{Known, Missing}
-use Rattle.transitions.specs.declared.types.Rate.{Rate}
-use Rattle.transitions.specs.declared.types.Rate.TheVariants as rate
-use Rattle.transitions.specs.declared.types.Time.{Time}
-use Rattle.transitions.specs.declared.types.Time.TheVariants as time
+use Rattle.transitions.specs.Types.{Level}
+use Rattle.transitions.specs.Types.{Rate}
+use Rattle.transitions.specs.Types.{Time}
 use Rattle.level_control.specs.Starts.{distance, passes, step_to}
 use Rattle.level_control.specs.declared.state.LevelControlState.{LevelControlState}
+use Rattle.transitions.specs.declared.events.Command.TheVariants as command
 
 -- the number of an event's kind, as its record has it
 abbrev pub kind_number : EventKind → ℕ
 kind_number kind.StartUp = 0
-kind_number (kind.MoveToLevel r) = 1
-kind_number (kind.Move r) = 2
-kind_number (kind.Step r) = 3
-kind_number (kind.Stop r) = 4
+kind_number (kind.Command (command.MoveToLevel r)) = 1
+kind_number (kind.Command (command.Move r)) = 2
+kind_number (kind.Command (command.Step r)) = 3
+kind_number (kind.Command (command.Stop r)) = 4
 kind_number (kind.Answer a) = 5
 kind_number kind.Wake = 6
-kind_number (kind.OnOffChanged value) = 7
-kind_number (kind.Scene r) = 8
-kind_number (kind.DeviceUpdate level) = 9
-kind_number kind.DeviceStop = 10
-kind_number (kind.SetOnLevel level) = 11
-kind_number (kind.SetDefaultMoveRate r) = 12
-kind_number (kind.SetStartUpCurrentLevel level) = 13
-kind_number kind.FactoryReset = 14
+kind_number (kind.Command (command.OnOffChanged value)) = 7
+kind_number (kind.Command (command.Scene r)) = 8
+kind_number (kind.Command (command.DeviceUpdate level)) = 9
+kind_number (kind.Command command.DeviceStop) = 10
+kind_number (kind.Command (command.SetOnLevel level)) = 11
+kind_number (kind.Command (command.SetDefaultMoveRate r)) = 12
+kind_number (kind.Command (command.SetStartUpCurrentLevel level)) = 13
+kind_number (kind.Command command.FactoryReset) = 14
 
 abbrev pub is_kind : ℕ → Event → Bool
 is_kind n e = eqb (kind_number e.kind) n
@@ -71,61 +69,61 @@ wait_over (task.OnReaction r) now = false
 
 -- a step with a known time whose size came out different, and its time times its actual size is above 65,535
 abbrev pub product_too_large : Level → Time → LevelControlState → StepRequest → Bool
-product_too_large (Known c) (time.Known t) s r =
+product_too_large (Some c) (Some t) s r =
     let actual = distance (step_to r.mode s c r.step_size) c in
     not (eqb actual r.step_size) && ltb 65535 (t.0 * actual)
-product_too_large (Known c) time.Missing s r = false
-product_too_large Missing t s r = false
+product_too_large (Some c) None s r = false
+product_too_large None t s r = false
 
 abbrev pub outside : Level → LevelControlState → Bool
-outside (Known level) s = ltb level s.settings.min_level || ltb s.settings.max_level level
-outside Missing s = false
+outside (Some level) s = ltb level s.settings.range.min || ltb s.settings.range.max level
+outside None s = false
 
 abbrev pub is_rate0 : Rate → Bool
-is_rate0 (rate.Known r) = eqb r 0
-is_rate0 rate.Missing = false
+is_rate0 (Some r) = eqb r 0
+is_rate0 None = false
 
 abbrev pub scene_rows : Level → LevelControlState → Bool → List Row
-scene_rows (Known level) s on = row 0 (leb level 254 && not (passes s false on (record { 0 = 0 }) (record { 0 = 0 }))) ∷ []
-scene_rows Missing s on = []
+scene_rows (Some level) s on = row 0 (leb level 254 && not (passes s false on (record { 0 = 0 }) (record { 0 = 0 }))) ∷ []
+scene_rows None s on = []
 
--- 10 to 14, and the options, by the kinds that they meet. Of a target of 255 the options are "not consulted"
+-- 10 to 14, and the options, by the kinds that they meet. Of a target of 255 the options are not consulted
 abbrev pub command_rows : LevelControlState → Bool → EventKind → List Row
 command_rows s on kind.StartUp = []
-command_rows s on (kind.MoveToLevel r) =
-    row 0 (leb r.level 254 && not (passes s r.with_on_off on r.options_mask r.options_override)) ∷ []
-command_rows s on (kind.Move r) =
+command_rows s on (kind.Command (command.MoveToLevel r)) =
+    row 0 (leb r.level 254 && not (passes s r.options.with_on_off on r.options.options_mask r.options.options_override)) ∷ []
+command_rows s on (kind.Command (command.Move r)) =
     row 10 (eqb (move_rate r.rate s.attributes.default_move_rate s.settings.fastest_rate) 0)
-    ∷ row 0 (not (passes s r.with_on_off on r.options_mask r.options_override))
+    ∷ row 0 (not (passes s r.options.with_on_off on r.options.options_mask r.options.options_override))
     ∷ []
-command_rows s on (kind.Step r) =
+command_rows s on (kind.Command (command.Step r)) =
     row 10 (eqb r.step_size 0)
-    ∷ row 0 (not (passes s r.with_on_off on r.options_mask r.options_override))
+    ∷ row 0 (not (passes s r.options.with_on_off on r.options.options_mask r.options.options_override))
     ∷ row 11 (is_missing s.current_level)
     ∷ row 12 (product_too_large s.current_level r.transition_time s r)
     ∷ []
-command_rows s on (kind.Stop r) = row 0 (not (passes s r.with_on_off on r.options_mask r.options_override)) ∷ []
+command_rows s on (kind.Command (command.Stop r)) = row 0 (not (passes s r.with_on_off on r.options_mask r.options_override)) ∷ []
 command_rows s on (kind.Answer a) = []
 command_rows s on kind.Wake = []
-command_rows s on (kind.OnOffChanged value) = []
-command_rows s on (kind.Scene r) = scene_rows r.level s on
-command_rows s on (kind.DeviceUpdate level) = []
-command_rows s on kind.DeviceStop = []
-command_rows s on (kind.SetOnLevel level) = row 13 (outside level s) ∷ []
-command_rows s on (kind.SetDefaultMoveRate r) = row 14 (is_rate0 r) ∷ []
-command_rows s on (kind.SetStartUpCurrentLevel level) = row 13 (outside level s) ∷ []
-command_rows s on kind.FactoryReset = []
+command_rows s on (kind.Command (command.OnOffChanged value)) = []
+command_rows s on (kind.Command (command.Scene r)) = scene_rows r.level s on
+command_rows s on (kind.Command (command.DeviceUpdate level)) = []
+command_rows s on (kind.Command command.DeviceStop) = []
+command_rows s on (kind.Command (command.SetOnLevel level)) = row 13 (outside level s) ∷ []
+command_rows s on (kind.Command (command.SetDefaultMoveRate r)) = row 14 (is_rate0 r) ∷ []
+command_rows s on (kind.Command (command.SetStartUpCurrentLevel level)) = row 13 (outside level s) ∷ []
+command_rows s on (kind.Command command.FactoryReset) = []
 
--- "they are tested in this order; options stand between 10 and 11": 5 "time below the last accepted, or above 2^62 − 1"; 6 "answer open, other event"; 7 "answer,
--- none open"; 8 "wake, none waited for or early"; 9 "start-up, not first accepted event"
+-- in this order, the options between 10 and 11. 5: below the last accepted time, or above 2^62 − 1; 6: a request is open, and the event is no answer;
+-- 7: an answer, and none is open; 8: a wake, and nothing waits or it is early; 9: start-up, and an event was accepted before
 abbrev pub causes : LevelControlState → Event → List Row
 causes s e =
-    row 5 (ltb e.at.0 s.last_accepted.0 || ltb 4611686018427387903 e.at.0)
+    row 5 (ltb e.moment.at.0 s.last_accepted.0 || ltb 4611686018427387903 e.moment.at.0)
     ∷ row 6 (not (is_kind 5 e) && request_open s.task)
     ∷ row 7 (is_kind 5 e && not (request_open s.task))
-    ∷ row 8 (is_kind 6 e && not (wait_over s.task e.at))
+    ∷ row 8 (is_kind 6 e && not (wait_over s.task e.moment.at))
     ∷ row 9 (is_kind 0 e && s.started)
-    ∷ command_rows s e.on_off e.kind
+    ∷ command_rows s e.moment.on_off e.kind
 
 -- the number of the first cause that meets the event, or 0
 unfoldable pub number_by : LevelControlState → Event → ℕ

@@ -1,11 +1,12 @@
-// The source's handler: a state, and a method for each event, under the source's name where it has one. Each gives the next state within its answer, and
-// refuses as `event` does: nothing has to be vetted first.
-// Derived from level_control.rs of project-chip/rs-matter 43f61585a4 (see NOTICE), and changed.
+//! The source's handler: a state, and a method for each event, under the source's name where it has one. Each gives the
+//! next state within its answer, and refuses as `event` does: nothing has to be vetted first.
+//! Derived from level_control.rs of project-chip/rs-matter 43f61585a4 (see NOTICE), and changed.
 #![tactic(auto)]
 
 ghost use Rattle.std.specs.Prelude.{◌≡◌};
 ghost use Rattle.transitions.specs.Events.{event as event_at};
 ghost use Rattle.transitions.specs.Scene.{scene_of};
+ghost use Rattle.transitions.specs.declared.events.Command.TheVariants as command;
 ghost use Rattle.transitions.specs.declared.events.EventKind.TheVariants as kinds;
 ghost use Rattle.level_control.specs.Answer.{packed};
 ghost use Rattle.level_control.specs.Events.{event_of};
@@ -13,217 +14,144 @@ ghost use Rattle.level_control.specs.Events.{event_of};
 use level_control::answer::Answer;
 use level_control::state::LevelControlState;
 use transitions::events::{
-    DeviceAnswer, Event, EventKind, MoveRequest, MoveToLevelRequest, SceneRequest, StepRequest,
-    StopRequest,
+    Command, DeviceAnswer, Event, EventKind, MoveRequest, MoveToLevelRequest, SceneRequest,
+    StepRequest,
 };
+use transitions::options::CommandOptions;
 use transitions::scene::scene_level;
-use transitions::types::{Level, Rate};
-use units::{Micros, Millis};
+use transitions::types::{Level, Moment, Rate};
+use units::Millis;
 
-#[derive(Clone, Copy)]
+#[derive(Clone, Copy, Debug, PartialEq, Eq)]
 pub struct LevelControlHandler {
     pub state: LevelControlState,
 }
 
 impl LevelControlHandler {
-    // Event 0.
-    pub fn startup(mut self, at: Micros, on_off: bool) -> Answer
-        ensures { result ≡ packed (event_of self.state (event_at at on_off kinds.StartUp)) }
+    fn event(mut self, moment: Moment, kind: EventKind) -> Answer
+        ensures { result ≡ packed (event_of self.state (event_at moment.at moment.on_off kind)) }
     {
-        let state = self.state;
-        state.event(Event {
-            at: at,
-            on_off: on_off,
-            kind: EventKind::StartUp,
-        })
+        self.state.event(Event { moment, kind })
     }
 
-    // Event 1.
-    pub fn move_to_level(mut self, at: Micros, on_off: bool, request: MoveToLevelRequest) -> Answer
-        ensures { result ≡ packed (event_of self.state (event_at at on_off (kinds.MoveToLevel request))) }
+    fn command(mut self, moment: Moment, command: Command) -> Answer
+        ensures { result ≡ packed (event_of self.state (event_at moment.at moment.on_off (kinds.Command command))) }
     {
-        let state = self.state;
-        state.event(Event {
-            at: at,
-            on_off: on_off,
-            kind: EventKind::MoveToLevel(request),
-        })
+        self.event(moment, EventKind::Command(command))
     }
 
-    // Event 2.
-    pub fn move_command(mut self, at: Micros, on_off: bool, request: MoveRequest) -> Answer
-        ensures { result ≡ packed (event_of self.state (event_at at on_off (kinds.Move request))) }
+    /// The device is asked for the start-up level.
+    pub fn startup(mut self, moment: Moment) -> Answer
+        ensures { result ≡ packed (event_of self.state (event_at moment.at moment.on_off kinds.StartUp)) }
     {
-        let state = self.state;
-        state.event(Event {
-            at: at,
-            on_off: on_off,
-            kind: EventKind::Move(request),
-        })
+        self.event(moment, EventKind::StartUp)
     }
 
-    // Event 3.
-    pub fn step(mut self, at: Micros, on_off: bool, request: StepRequest) -> Answer
-        ensures { result ≡ packed (event_of self.state (event_at at on_off (kinds.Step request))) }
+    pub fn move_to_level(mut self, moment: Moment, request: MoveToLevelRequest) -> Answer
+        ensures { result ≡ packed (event_of self.state (event_at moment.at moment.on_off (kinds.Command (command.MoveToLevel request)))) }
     {
-        let state = self.state;
-        state.event(Event {
-            at: at,
-            on_off: on_off,
-            kind: EventKind::Step(request),
-        })
+        self.command(moment, Command::MoveToLevel(request))
     }
 
-    // Event 4.
-    pub fn stop(mut self, at: Micros, on_off: bool, request: StopRequest) -> Answer
-        ensures { result ≡ packed (event_of self.state (event_at at on_off (kinds.Stop request))) }
+    pub fn move_command(mut self, moment: Moment, request: MoveRequest) -> Answer
+        ensures { result ≡ packed (event_of self.state (event_at moment.at moment.on_off (kinds.Command (command.Move request)))) }
     {
-        let state = self.state;
-        state.event(Event {
-            at: at,
-            on_off: on_off,
-            kind: EventKind::Stop(request),
-        })
+        self.command(moment, Command::Move(request))
     }
 
-    // Event 5. The device's answer to the open request.
-    pub fn answer(mut self, at: Micros, on_off: bool, answer: DeviceAnswer) -> Answer
-        ensures { result ≡ packed (event_of self.state (event_at at on_off (kinds.Answer answer))) }
+    pub fn step(mut self, moment: Moment, request: StepRequest) -> Answer
+        ensures { result ≡ packed (event_of self.state (event_at moment.at moment.on_off (kinds.Command (command.Step request)))) }
     {
-        let state = self.state;
-        state.event(Event {
-            at: at,
-            on_off: on_off,
-            kind: EventKind::Answer(answer),
-        })
+        self.command(moment, Command::Step(request))
     }
 
-    // Event 6. The end of a wait: the source's timer.
-    pub fn wake(mut self, at: Micros, on_off: bool) -> Answer
-        ensures { result ≡ packed (event_of self.state (event_at at on_off kinds.Wake)) }
+    pub fn stop(mut self, moment: Moment, options: CommandOptions) -> Answer
+        ensures { result ≡ packed (event_of self.state (event_at moment.at moment.on_off (kinds.Command (command.Stop options)))) }
     {
-        let state = self.state;
-        state.event(Event {
-            at: at,
-            on_off: on_off,
-            kind: EventKind::Wake,
-        })
+        self.command(moment, Command::Stop(options))
     }
 
-    // Event 7.
-    pub fn handle_on_off_state_change(mut self, at: Micros, on_off: bool, on: bool) -> Answer
-        ensures { result ≡ packed (event_of self.state (event_at at on_off (kinds.OnOffChanged on))) }
+    /// The device's answer to the open request.
+    pub fn answer(mut self, moment: Moment, answer: DeviceAnswer) -> Answer
+        ensures { result ≡ packed (event_of self.state (event_at moment.at moment.on_off (kinds.Answer answer))) }
     {
-        let state = self.state;
-        state.event(Event {
-            at: at,
-            on_off: on_off,
-            kind: EventKind::OnOffChanged(on),
-        })
+        self.event(moment, EventKind::Answer(answer))
     }
 
-    // Event 8.
-    pub fn recall(mut self, at: Micros, on_off: bool, request: SceneRequest) -> Answer
-        ensures { result ≡ packed (event_of self.state (event_at at on_off (kinds.Scene request))) }
+    /// The end of a wait: the source's timer.
+    pub fn wake(mut self, moment: Moment) -> Answer
+        ensures { result ≡ packed (event_of self.state (event_at moment.at moment.on_off kinds.Wake)) }
     {
-        let state = self.state;
-        state.event(Event {
-            at: at,
-            on_off: on_off,
-            kind: EventKind::Scene(request),
-        })
+        self.event(moment, EventKind::Wake)
     }
 
-    // Event 9. The source's OutOfBandMessage::Update.
-    pub fn update(mut self, at: Micros, on_off: bool, level: u8) -> Answer
-        ensures { result ≡ packed (event_of self.state (event_at at on_off (kinds.DeviceUpdate level))) }
+    pub fn handle_on_off_state_change(mut self, moment: Moment, on: bool) -> Answer
+        ensures { result ≡ packed (event_of self.state (event_at moment.at moment.on_off (kinds.Command (command.OnOffChanged on)))) }
     {
-        let state = self.state;
-        state.event(Event {
-            at: at,
-            on_off: on_off,
-            kind: EventKind::DeviceUpdate(level),
-        })
+        self.command(moment, Command::OnOffChanged(on))
     }
 
-    // Event 10. The source's OutOfBandMessage::Stop.
-    pub fn device_stop(mut self, at: Micros, on_off: bool) -> Answer
-        ensures { result ≡ packed (event_of self.state (event_at at on_off kinds.DeviceStop)) }
+    /// A scene whose pairs were searched.
+    pub fn recall(mut self, moment: Moment, request: SceneRequest) -> Answer
+        ensures { result ≡ packed (event_of self.state (event_at moment.at moment.on_off (kinds.Command (command.Scene request)))) }
     {
-        let state = self.state;
-        state.event(Event {
-            at: at,
-            on_off: on_off,
-            kind: EventKind::DeviceStop,
-        })
+        self.command(moment, Command::Scene(request))
     }
 
-    // Event 11.
-    pub fn set_on_level(mut self, at: Micros, on_off: bool, level: Level) -> Answer
-        ensures { result ≡ packed (event_of self.state (event_at at on_off (kinds.SetOnLevel level))) }
+    /// The source's OutOfBandMessage::Update.
+    pub fn update(mut self, moment: Moment, level: u8) -> Answer
+        ensures { result ≡ packed (event_of self.state (event_at moment.at moment.on_off (kinds.Command (command.DeviceUpdate level)))) }
     {
-        let state = self.state;
-        state.event(Event {
-            at: at,
-            on_off: on_off,
-            kind: EventKind::SetOnLevel(level),
-        })
+        self.command(moment, Command::DeviceUpdate(level))
     }
 
-    // Event 12.
-    pub fn set_default_move_rate(mut self, at: Micros, on_off: bool, rate: Rate) -> Answer
-        ensures { result ≡ packed (event_of self.state (event_at at on_off (kinds.SetDefaultMoveRate rate))) }
+    /// The source's OutOfBandMessage::Stop.
+    pub fn device_stop(mut self, moment: Moment) -> Answer
+        ensures { result ≡ packed (event_of self.state (event_at moment.at moment.on_off (kinds.Command command.DeviceStop))) }
     {
-        let state = self.state;
-        state.event(Event {
-            at: at,
-            on_off: on_off,
-            kind: EventKind::SetDefaultMoveRate(rate),
-        })
+        self.command(moment, Command::DeviceStop)
     }
 
-    // Event 13.
-    pub fn set_start_up_current_level(mut self, at: Micros, on_off: bool, level: Level) -> Answer
-        ensures { result ≡ packed (event_of self.state (event_at at on_off (kinds.SetStartUpCurrentLevel level))) }
+    pub fn set_on_level(mut self, moment: Moment, level: Level) -> Answer
+        ensures { result ≡ packed (event_of self.state (event_at moment.at moment.on_off (kinds.Command (command.SetOnLevel level)))) }
     {
-        let state = self.state;
-        state.event(Event {
-            at: at,
-            on_off: on_off,
-            kind: EventKind::SetStartUpCurrentLevel(level),
-        })
+        self.command(moment, Command::SetOnLevel(level))
     }
 
-    // Event 14.
-    pub fn factory_reset(mut self, at: Micros, on_off: bool) -> Answer
-        ensures { result ≡ packed (event_of self.state (event_at at on_off kinds.FactoryReset)) }
+    pub fn set_default_move_rate(mut self, moment: Moment, rate: Rate) -> Answer
+        ensures { result ≡ packed (event_of self.state (event_at moment.at moment.on_off (kinds.Command (command.SetDefaultMoveRate rate)))) }
     {
-        let state = self.state;
-        state.event(Event {
-            at: at,
-            on_off: on_off,
-            kind: EventKind::FactoryReset,
-        })
+        self.command(moment, Command::SetDefaultMoveRate(rate))
     }
 
-    // A scene's pairs are searched, and what they decide is event 8.
+    pub fn set_start_up_current_level(mut self, moment: Moment, level: Level) -> Answer
+        ensures { result ≡ packed (event_of self.state (event_at moment.at moment.on_off (kinds.Command (command.SetStartUpCurrentLevel level)))) }
+    {
+        self.command(moment, Command::SetStartUpCurrentLevel(level))
+    }
+
+    pub fn factory_reset(mut self, moment: Moment) -> Answer
+        ensures { result ≡ packed (event_of self.state (event_at moment.at moment.on_off (kinds.Command command.FactoryReset))) }
+    {
+        self.command(moment, Command::FactoryReset)
+    }
+
+    /// A scene's pairs are searched, and what they decide is recalled.
     pub fn apply(
         mut self,
-        at: Micros,
-        on_off: bool,
+        moment: Moment,
         ids: &[u32],
         values: &[u16],
         transition_time: Millis,
     ) -> Answer
-        ensures { result ≡ packed (event_of self.state (event_at at on_off (kinds.Scene (scene_of ids.now values.now transition_time)))) }
+        ensures { result ≡ packed (event_of self.state (event_at moment.at moment.on_off (kinds.Command (command.Scene (scene_of ids.now values.now transition_time))))) }
     {
         let level = scene_level(ids, values);
         self.recall(
-            at,
-            on_off,
+            moment,
             SceneRequest {
-                level: level,
-                transition_time: transition_time,
+                level,
+                transition_time,
             },
         )
     }

@@ -1,15 +1,14 @@
-// Reads records from standard input and prints the sheet, or `0 `, the number of the refusal and a line feed.
+//! Reads records from standard input and prints the sheet, or `0 `, the number of the refusal and a line feed.
 #![tactic(auto)]
 
 use sheet::key::key_sheet;
 use std::io;
 use std::io::{Read, Write};
-use text::front;
 
-// One byte more than a play may have, so that a longer input is seen to be too long.
+/// One byte more than a play may have, so that a longer input is seen to be too long.
 const MOST_READ: usize = 5_121;
 
-// Room for every sheet.
+/// Room for every sheet.
 const ROOM: usize = 48_195;
 
 fn main(rt: HostRuntime) -> io::Result<()> {
@@ -18,9 +17,9 @@ fn main(rt: HostRuntime) -> io::Result<()> {
         &mut rt.reader().take(MOST_READ as u64),
         &mut &mut records[..],
     )?;
-    // No more than the room: nothing is cut.
-    let read = front(read as usize, &records);
+    // No more than the room: nothing is cut, here and below.
+    let read = MOST_READ.min(read as usize);
     let mut sheet = [0; ROOM];
-    let length = front(key_sheet(&records[..read], &mut sheet), &sheet);
+    let length = ROOM.min(key_sheet(&records[..read], &mut sheet));
     io::writer(&rt).write_all(&sheet[..length])
 }

@@ -1,36 +1,25 @@
 -- What every event gives: a refused one its number and the state it was given, an accepted one the number 0. Assumes nothing.
+use Rattle.std.specs.Prelude.{Option, Some, None, Result, Ok, Err, ℕ}
 use Prim.Native.Nat.{ℕ}
 use mathlib.Core.Bool.{Bool, true, false, cond}
 use mathlib.Core.Path.{◌≡◌, refl, sym, ap, ◌∙◌}
-use mathlib.Core.List.{List, [], ◌∷◌}
+use mathlib.Core.List.{[]}
 use native.Mathlib.Omega.{arith}
 use borrow.Author.Tests.{eqb-true, eqb-false, eq-eqb, ne_eqb}
 use lib.Dec.{eqb}
 use Rattle.units.specs.declared.Micros.{Micros}
-use Rattle.transitions.specs.Causes.{event_tests, first_cause, no_command_tests, no_turn_tests}
-use Rattle.transitions.specs.Events.{event, turn_of}
+use Rattle.transitions.specs.Causes.{event_tests, first_cause}
 use Rattle.transitions.specs.Fade.{wait_or_ask}
 use Rattle.transitions.specs.Tasks.{begin_fade, fade_last, fade_next, level_to_restore, next_move, at_limit}
 use Rattle.transitions.specs.Types.{level_or}
-use Rattle.transitions.specs.declared.causes.CommandTests.{CommandTests}
-use Rattle.transitions.specs.declared.causes.TurnTests.{TurnTests}
-use Rattle.transitions.specs.declared.commands.MoveRate.{MoveRate}
-use Rattle.transitions.specs.declared.commands.MoveRate.TheVariants.{Goes, InvalidCommand}
-use Rattle.transitions.specs.declared.commands.StepTime.{StepTime}
-use Rattle.transitions.specs.declared.commands.StepTime.TheVariants.{Takes, Overflow}
+use Rattle.transitions.specs.Causes.{CommandTests}
+use Rattle.transitions.specs.Causes.{TurnTests}
 use Rattle.transitions.specs.declared.events.DeviceAnswer.{DeviceAnswer}
 use Rattle.transitions.specs.declared.events.DeviceAnswer.TheVariants as device
 use Rattle.transitions.specs.declared.events.Event.{Event}
 use Rattle.transitions.specs.declared.events.EventKind.{EventKind}
 use Rattle.transitions.specs.declared.events.EventKind.TheVariants as kind
-use Rattle.transitions.specs.declared.events.Turn.TheVariants as turn
-use Rattle.transitions.specs.contracts.events.EventKind.{the_type}
-use denote.Enum.Declared.{tag_of}
-use types.Run.{OneOf, miss}
 use Rattle.transitions.specs.declared.events.StepRequest.{StepRequest}
-use Rattle.transitions.specs.declared.fade.Next.{Next}
-use Rattle.transitions.specs.declared.fade.Next.TheVariants.{Wait, Ask}
-use Rattle.transitions.specs.declared.tasks.AfterFade.{AfterFade}
 use Rattle.transitions.specs.declared.tasks.Begin.{Begin}
 use Rattle.transitions.specs.declared.tasks.Begin.TheVariants as begin
 use Rattle.transitions.specs.declared.tasks.Fade.{Fade}
@@ -44,8 +33,7 @@ use Rattle.transitions.specs.declared.tasks.Phase.{Phase}
 use Rattle.transitions.specs.declared.tasks.Phase.TheVariants.{Asked, Waiting}
 use Rattle.transitions.specs.declared.tasks.Task.{Task}
 use Rattle.transitions.specs.declared.tasks.Task.TheVariants as task
-use Rattle.transitions.specs.declared.types.Level.{Level}
-use Rattle.transitions.specs.declared.types.Level.TheVariants.{Known, Missing}
+use Rattle.transitions.specs.Types.{Level}
 use Rattle.level_control.specs.State.{accept}
 use Rattle.level_control.specs.Answer.{Outcome, done, refused}
 use Rattle.level_control.specs.Reports.{told_level}
@@ -54,10 +42,13 @@ use Rattle.level_control.specs.Fades.{restored, fade_ended_by, fade_ended, fade_
 use Rattle.level_control.specs.Moves.{move_by, move_goes_on, move_at, begin_move, move_next, move_then, move_ends, move_transition, move_missing, move_answered, rate_by}
 use Rattle.level_control.specs.Reactions.{turned_on, on_to, on_goes_on, on_answered, turned_off, switched}
 use Rattle.level_control.specs.Rest.{start_up_level, start_up_at, started_up, stored_start_up, start_up_answered, updated, on_level_set, default_move_rate_set, start_up_current_level_set, reset_all}
-use Rattle.level_control.specs.Causes.{turn_tests, command_tests_of}
+use Rattle.level_control.specs.Causes.{command_tests_of}
 use Rattle.level_control.specs.Events.{fade_answered_in, move_answered_in, answered_in, answered, woken_in, woken, run, number_of, event_of}
-use Rattle.level_control.specs.declared.reports.Told.{Told}
+use Rattle.level_control.specs.Reports.{Told}
 use Rattle.level_control.specs.declared.state.LevelControlState.{LevelControlState}
+use Rattle.units.specs.declared.Tenths.{Tenths}
+use Rattle.transitions.specs.declared.causes.Refusal.{Refusal}
+use Rattle.transitions.specs.declared.events.Command.TheVariants as command
 
 -- Whatever runs is accepted: its number is 0.
 
@@ -81,29 +72,29 @@ stepped_zero : (s : LevelControlState) (r : StepRequest) (at : Micros) (on : Boo
 unfolding stepped
 stepped_zero s r at on = by s.current_level
   where
-    takes : (level : ℕ) (t : StepTime) → Zero (stepped_by t s level r at on)
-    takes level (Takes time) = go_to_zero _ _ at on
-    takes level Overflow = refl
+    takes : (level : ℕ) (t : Result Tenths Refusal) → Zero (stepped_by t s level r at on)
+    takes level (Ok time) = go_to_zero _ _ at on
+    takes level (Err cause) = refl
 
     by : (l : Level) → Zero (stepped_from l s r at on)
-    by (Known level) = takes level (stepped_time s level r)
-    by Missing = refl
+    by (Some level) = takes level (stepped_time s level r)
+    by None = refl
 
-ended_zero : (t : Told) (after : AfterFade) → Zero (fade_ended t after)
+ended_zero : (t : Told) (after : Option ℕ) → Zero (fade_ended t after)
 unfolding fade_ended restored
 ended_zero t after = by (level_to_restore after t.state.attributes.on_level)
   where
     by : (l : Level) → Zero (fade_ended_by l t)
-    by (Known before) = refl
-    by Missing = refl
+    by (Some before) = refl
+    by None = refl
 
 goes_on_zero : (t : Told) (f : Fade) (since at : Micros) → Zero (fade_goes_on t f since at)
 unfolding fade_goes_on
 goes_on_zero t f since at = by (fade_next f since at)
   where
-    by : (n : Next) → Zero (fade_then n t f at)
-    by (Wait until) = refl
-    by Ask = refl
+    by : (n : Option Micros) → Zero (fade_then n t f at)
+    by (Some until) = refl
+    by None = refl
 
 fade_answered_zero : (s : LevelControlState) (f : Fade) (since at : Micros) (on : Bool) (a : DeviceAnswer) → Zero (fade_answered s f since at on a)
 unfolding fade_answered move_to_level_transition fade_missing device_failed
@@ -125,25 +116,25 @@ move_then_zero : (t : Told) (m : Move) (since at : Micros) (on : Bool) → Zero 
 unfolding move_then
 move_then_zero t m since at on = by (wait_or_ask since at m.course.period)
   where
-    by : (n : Next) → Zero (move_next n t m at on)
-    by (Wait until) = refl
-    by Ask = move_zero t m.course at on
+    by : (n : Option Micros) → Zero (move_next n t m at on)
+    by (Some until) = refl
+    by None = move_zero t m.course at on
 
 move_answered_zero : (s : LevelControlState) (m : Move) (since at : Micros) (on : Bool) (a : DeviceAnswer) → Zero (move_answered s m since at on a)
 unfolding move_answered move_transition move_missing device_failed
 move_answered_zero s m since at on (device.Level level) =
-    cond_zero (move_ends s m.asked) _ _ refl (move_then_zero (told_level s (Known level) at (move_ends s m.asked)) m since at on)
+    cond_zero (move_ends s m.asked) _ _ refl (move_then_zero (told_level s (Some level) at (move_ends s m.asked)) m since at on)
 move_answered_zero s m since at on device.Missing = refl
 move_answered_zero s m since at on device.Failed = refl
 
 on_answered_zero : (s : LevelControlState) (r : OnReaction) (at : Micros) (on : Bool) (a : DeviceAnswer) → Zero (on_answered s r at on a)
 unfolding on_answered on_goes_on move_missing device_failed
 on_answered_zero s r at on (device.Level level) =
-    by (level_or (told_level s (Known level) at false).state.attributes.on_level r.before)
+    by (level_or (told_level s (Some level) at false).state.attributes.on_level r.before)
   where
-    by : (l : Level) → Zero (on_to l (told_level s (Known level) at false) at on)
-    by (Known target) = go_to_zero _ _ at on
-    by Missing = refl
+    by : (l : Level) → Zero (on_to l (told_level s (Some level) at false) at on)
+    by (Some target) = go_to_zero _ _ at on
+    by None = refl
 on_answered_zero s r at on device.Missing = refl
 on_answered_zero s r at on device.Failed = refl
 
@@ -188,52 +179,49 @@ unfolding run started_up moved_to_level begin_move stopped switched turned_on tu
 run_zero s kind.StartUp at on = by (start_up_level s)
   where
     by : (l : Level) → Zero (start_up_at l s)
-    by (Known level) = refl
-    by Missing = refl
-run_zero s (kind.MoveToLevel r) at on = go_to_zero _ _ at on
-run_zero s (kind.Move r) at on =
-    cond_zero (at_limit s.current_level r.mode s.settings.min_level s.settings.max_level) _ _ refl (by (rate_by s r))
+    by (Some level) = refl
+    by None = refl
+run_zero s (kind.Command (command.MoveToLevel r)) at on = go_to_zero _ _ at on
+run_zero s (kind.Command (command.Move r)) at on =
+    cond_zero (at_limit s.current_level r.mode s.settings.range.min s.settings.range.max) _ _ refl (by (rate_by s r))
   where
-    by : (x : MoveRate) → Zero (move_at x s r at on)
-    by (Goes rate) = move_zero _ _ at on
-    by InvalidCommand = refl
-run_zero s (kind.Step r) at on = stepped_zero s r at on
-run_zero s (kind.Stop r) at on = refl
+    by : (x : Result ℕ Refusal) → Zero (move_at x s r at on)
+    by (Ok rate) = move_zero _ _ at on
+    by (Err cause) = refl
+run_zero s (kind.Command (command.Step r)) at on = stepped_zero s r at on
+run_zero s (kind.Command (command.Stop r)) at on = refl
 run_zero s (kind.Answer a) at on = answered_zero s a at on
 run_zero s kind.Wake at on = woken_zero s at on
-run_zero s (kind.OnOffChanged value) at on = cond_zero value _ _ refl (go_to_zero _ _ at on)
-run_zero s (kind.Scene r) at on = by r.level
+run_zero s (kind.Command (command.OnOffChanged value)) at on = cond_zero value _ _ refl (go_to_zero _ _ at on)
+run_zero s (kind.Command (command.Scene r)) at on = by r.level
   where
     by : (l : Level) → Zero (recalled_at l s r at on)
-    by (Known level) = go_to_zero _ _ at on
-    by Missing = refl
-run_zero s (kind.DeviceUpdate level) at on = refl
-run_zero s kind.DeviceStop at on = refl
-run_zero s (kind.SetOnLevel level) at on = refl
-run_zero s (kind.SetDefaultMoveRate rate) at on = refl
-run_zero s (kind.SetStartUpCurrentLevel level) at on = refl
-run_zero s kind.FactoryReset at on = refl
+    by (Some level) = go_to_zero _ _ at on
+    by None = refl
+run_zero s (kind.Command (command.DeviceUpdate level)) at on = refl
+run_zero s (kind.Command command.DeviceStop) at on = refl
+run_zero s (kind.Command (command.SetOnLevel level)) at on = refl
+run_zero s (kind.Command (command.SetDefaultMoveRate rate)) at on = refl
+run_zero s (kind.Command (command.SetStartUpCurrentLevel level)) at on = refl
+run_zero s (kind.Command command.FactoryReset) at on = refl
 
 -- The three ways of an event.
 
 abbrev pub stopped_in : LevelControlState → Event → Bool
-stopped_in s e = (command_tests_of s e.on_off e.kind).stopped_by_options
+stopped_in s e = (command_tests_of s e.moment.on_off e.kind).stopped_by_options
 
 pub event_refused : (s : LevelControlState) (e : Event) → (number_of s e ≡ 0 → ⊥) → event_of s e ≡ refused s (number_of s e)
 unfolding event_of
 event_refused s e h = simp (ne_eqb (number_of s e) 0 h)
 
-pub event_stopped : (s : LevelControlState) (e : Event) → number_of s e ≡ 0 → stopped_in s e ≡ true → event_of s e ≡ done (accept s e.at) []
+pub event_stopped : (s : LevelControlState) (e : Event) → number_of s e ≡ 0 → stopped_in s e ≡ true → event_of s e ≡ done (accept s e.moment.at) []
 unfolding event_of
 event_stopped s e h q = simp (eq-eqb (number_of s e) 0 h, q)
 
 pub event_runs : (s : LevelControlState) (e : Event) → number_of s e ≡ 0 → stopped_in s e ≡ false
-    → event_of s e ≡ run (accept s e.at) e.kind e.at e.on_off
+    → event_of s e ≡ run (accept s e.moment.at) e.kind e.moment.at e.moment.on_off
 unfolding event_of
 event_runs s e h q = simp (eq-eqb (number_of s e) 0 h, q)
-
-pub refused_by : (s : LevelControlState) (e : Event) {n : ℕ} → n ≡ number_of s e → (n ≡ 0 → ⊥) → refused s n ≡ event_of s e
-refused_by s e q h = ap (refused s) q ∙ sym (event_refused s e (λ z. h (q ∙ z)))
 
 -- the number of the outcome is that of the first cause
 pub event_number : (s : LevelControlState) (e : Event) → (event_of s e).number ≡ number_of s e
@@ -243,7 +231,7 @@ event_number s e = go (eqb (number_of s e) 0) refl (stopped_in s e) refl
     go true p true q = let z = eqb-true (number_of s e) 0 p in ap (λ (o : Outcome). o.number) (event_stopped s e z q) ∙ sym z
     go true p false q =
         let z = eqb-true (number_of s e) 0 p in
-        ap (λ (o : Outcome). o.number) (event_runs s e z q) ∙ run_zero (accept s e.at) e.kind e.at e.on_off ∙ sym z
+        ap (λ (o : Outcome). o.number) (event_runs s e z q) ∙ run_zero (accept s e.moment.at) e.kind e.moment.at e.moment.on_off ∙ sym z
     go false p c q = ap (λ (o : Outcome). o.number) (event_refused s e (eqb-false (number_of s e) 0 p))
 
 -- where the number is 0, none of the tests of the event's turn holds
@@ -268,83 +256,6 @@ unfolding first_cause
 turn_passes t c h =
     let w = passes t.time_refused t.answer_open t.no_answer_open t.wake_refused t.start_up_late _ h in
     record { is_in_time = w.0; not_open = w.1; opened = w.2; due = w.3; first = w.4 }
-
--- the causes of an event's turn come before those of its values
-
-first_by : (a b c d f : Bool) (x : ℕ) → (◌≡◌ {A = ℕ} (cond a 5 (cond b 6 (cond c 7 (cond d 8 (cond f 9 0))))) 0 → ⊥)
-    → ◌≡◌ {A = ℕ} (cond a 5 (cond b 6 (cond c 7 (cond d 8 (cond f 9 0))))) (cond a 5 (cond b 6 (cond c 7 (cond d 8 (cond f 9 x)))))
-first_by true b c d f x h = refl
-first_by false true c d f x h = refl
-first_by false false true d f x h = refl
-first_by false false false true f x h = refl
-first_by false false false false true x h = refl
-first_by false false false false false x h = absurd (h refl)
-
-pub turn_first : (t : TurnTests) (c : CommandTests) → (first_cause (event_tests t no_command_tests) ≡ 0 → ⊥)
-    → first_cause (event_tests t no_command_tests) ≡ first_cause (event_tests t c)
-unfolding first_cause
-turn_first t c h = first_by t.time_refused t.answer_open t.no_answer_open t.wake_refused t.start_up_late _ h
-
-pub values_next : (t : TurnTests) (c : CommandTests) → first_cause (event_tests t no_command_tests) ≡ 0
-    → first_cause (event_tests no_turn_tests c) ≡ first_cause (event_tests t c)
-unfolding first_cause
-values_next t c h =
-    let w = turn_passes t no_command_tests h in
-    rw (w.is_in_time, w.not_open, w.opened, w.due, w.first)
-
--- the kinds that are none of the three with a turn of their own, by their numbers
-abbrev others : List ℕ
-others = 1 ∷ 2 ∷ 3 ∷ 4 ∷ 7 ∷ 8 ∷ 9 ∷ 10 ∷ 11 ∷ 12 ∷ 13 ∷ 14 ∷ []
-
-pub other_turn : (k : EventKind) → OneOf others (tag_of the_type k) → turn_of k ≡ turn.Other
-other_turn kind.StartUp h = absurd (miss others 0 tt h)
-other_turn (kind.MoveToLevel r) h = refl
-other_turn (kind.Move r) h = refl
-other_turn (kind.Step r) h = refl
-other_turn (kind.Stop r) h = refl
-other_turn (kind.Answer a) h = absurd (miss others 5 tt h)
-other_turn kind.Wake h = absurd (miss others 6 tt h)
-other_turn (kind.OnOffChanged value) h = refl
-other_turn (kind.Scene r) h = refl
-other_turn (kind.DeviceUpdate level) h = refl
-other_turn kind.DeviceStop h = refl
-other_turn (kind.SetOnLevel level) h = refl
-other_turn (kind.SetDefaultMoveRate rate) h = refl
-other_turn (kind.SetStartUpCurrentLevel level) h = refl
-other_turn kind.FactoryReset h = refl
-
--- what refuses such an event: its turn, else its values
-
-abbrev TurnNumber : LevelControlState → Event → ℕ
-TurnNumber s e = first_cause (event_tests (turn_tests s e.at turn.Other) no_command_tests)
-
-abbrev pub ValueNumber : LevelControlState → Event → ℕ
-ValueNumber s e = first_cause (event_tests no_turn_tests (command_tests_of s e.on_off e.kind))
-
-whole_number : (s : LevelControlState) (e : Event) → turn_of e.kind ≡ turn.Other
-    → first_cause (event_tests (turn_tests s e.at turn.Other) (command_tests_of s e.on_off e.kind)) ≡ number_of s e
-unfolding number_of
-whole_number s e o = rw (o)
-
-pub turn_number : (s : LevelControlState) (e : Event) {n : ℕ} → turn_of e.kind ≡ turn.Other → n ≡ TurnNumber s e → (n ≡ 0 → ⊥) → n ≡ number_of s e
-turn_number s e o q h = q ∙ turn_first _ _ (λ z. h (q ∙ z)) ∙ whole_number s e o
-
-pub value_number : (s : LevelControlState) (e : Event) {early n : ℕ} → turn_of e.kind ≡ turn.Other → early ≡ TurnNumber s e → early ≡ 0
-    → n ≡ ValueNumber s e → n ≡ number_of s e
-value_number s e o q z v = v ∙ values_next _ _ (sym q ∙ z) ∙ whole_number s e o
-
--- an event with its kind named
-
-pub same_event : (s : LevelControlState) (e : Event) {k : EventKind} → e.kind ≡ k → event_of s (event e.at e.on_off k) ≡ event_of s e
-same_event s e h = ap (λ (k : EventKind). event_of s (event e.at e.on_off k)) (sym h)
-
--- start-up does not look at the on/off value
-either_start_up : (s : LevelControlState) (e : Event) → event_of s (event e.at false kind.StartUp) ≡ event_of s (event e.at e.on_off kind.StartUp)
-unfolding event_of number_of command_tests_of run
-either_start_up s e = refl
-
-pub same_start_up : (s : LevelControlState) (e : Event) → e.kind ≡ kind.StartUp → event_of s (event e.at false kind.StartUp) ≡ event_of s e
-same_start_up s e h = either_start_up s e ∙ same_event s e h
 
 -- and where no options stop it, none of the tests of its values
 pub record CommandPasses (c : CommandTests) : Type 0 where

@@ -1,4 +1,5 @@
--- Demand 3: every fade, after every list of events of which only answers with a level and wakes are accepted. Assumes nothing.
+-- Every fade, after every list of events of which only answers with a level and wakes are accepted. Assumes nothing.
+use Rattle.std.specs.Prelude.{Some, None}
 use Prim.Native.Nat.{ℕ, suc, ◌+◌, ◌≤◌, ◌<◌}
 use mathlib.Core.Bool.{Bool, true, cond, not, ◌||◌}
 use mathlib.Core.Path.{◌≡◌, refl, sym, ap, subst, ◌∙◌}
@@ -22,8 +23,7 @@ use Rattle.transitions.specs.declared.tasks.Phase.{Phase}
 use Rattle.transitions.specs.declared.tasks.Phase.TheVariants.{Asked, Waiting}
 use Rattle.transitions.specs.declared.tasks.Task.{Task}
 use Rattle.transitions.specs.declared.tasks.Task.TheVariants as task
-use Rattle.transitions.specs.declared.types.Level.{Level}
-use Rattle.transitions.specs.declared.types.Level.TheVariants.{Known, Missing}
+use Rattle.transitions.specs.Types.{Level}
 use Rattle.transitions.proofs.Booleans.{and_first, and_second}
 use Rattle.level_control.specs.State.{accept, with_task}
 use Rattle.level_control.specs.Answer.{Outcome}
@@ -32,8 +32,8 @@ use Rattle.level_control.specs.Events.{number_of, event_of}
 use Rattle.level_control.specs.Path.{path}
 use Rattle.level_control.specs.Run.{all_refused, asks, opened, Run, Pending, Nothing, waits, accepted, is_onward, started, next, play, only_onward, state_after}
 use Rattle.level_control.specs.Starts.{Fades, distance, on_start_at, on_start}
-use Rattle.level_control.specs.Demand3.{Starts, directly, after_on, Shown, EveryFade}
-use Rattle.level_control.specs.declared.reports.Told.{Told}
+use Rattle.level_control.specs.EveryFade.{Starts, directly, after_on, Shown, EveryFade}
+use Rattle.level_control.specs.Reports.{Told}
 use Rattle.level_control.specs.declared.state.LevelControlState.{LevelControlState}
 use Rattle.level_control.proofs.PathLaws.{path_step, length_path}
 use Rattle.level_control.proofs.TimeLaws as times
@@ -41,6 +41,7 @@ use Rattle.level_control.proofs.SeenLaws.{asks_after, opened_after}
 use Rattle.level_control.proofs.EventLaws.{event_number}
 use Rattle.level_control.proofs.FadeInvariant.{Running, Inv, openings, pending_in, Kept, keep}
 use Rattle.level_control.proofs.StartLaws.{go_to_starts, Starting, direct_starts, reacting, on_is, refused_stays, on_starts, on_answered_is}
+use Rattle.transitions.specs.declared.events.Command.TheVariants as command
 
 -- a fade that starts makes the invariant hold
 first_holds : (c m : ℕ) (r : FadeRequest) (at : Micros) → (c ≡ r.target → ⊥) → 1 ≤ r.transition_time.0
@@ -62,7 +63,7 @@ first_holds c m r at ne pos = record {
 abbrev Seen : ℕ → ℕ → ℕ → Outcome → Type 0
 Seen c t T o = Inv c t T (asks o.actions) 0 o.state.remaining_time.0 (opened o.actions Nothing) o.state.task
 
-go_to_holds : (told : Told) (r : FadeRequest) (at : Micros) (on : Bool) (c : ℕ) → told.state.current_level ≡ Known c → (c ≡ r.target → ⊥)
+go_to_holds : (told : Told) (r : FadeRequest) (at : Micros) (on : Bool) (c : ℕ) → told.state.current_level ≡ Some c → (c ≡ r.target → ⊥)
     → 1 ≤ r.transition_time.0 → Seen c r.target r.transition_time.0 (go_to told r at on)
 unfolding with_task fade_from
 go_to_holds told r at on c level ne pos =
@@ -139,7 +140,7 @@ module _ (c t T : ℕ) (pos : 1 ≤ T) (small : T ≤ 65535) where
 pub accepted_zero : (s : LevelControlState) (e : Event) → accepted s e ≡ true → number_of s e ≡ 0
 accepted_zero s e h = sym (event_number s e) ∙ eqb-true (event_of s e).number 0 h
 
--- the answer after event 7 (on)
+-- the answer after on
 reacting_starts : (s : LevelControlState) (at₀ at : Micros) (on : Bool) (v c t T : ℕ) → on_start s v ≡ Fades c t T
     → number_of (reacting s at₀) (event at on (kind.Answer (device.Level v))) ≡ 0
     → Starting (event_of (reacting s at₀) (event at on (kind.Answer (device.Level v)))) at c t T
@@ -149,11 +150,11 @@ reacting_starts s at₀ at on v c t T named z =
     (on_starts (reacting s at₀) s.current_level at on v c t T (same s.attributes.on_level s.current_level ∙ named))
   where
     same : (o b : Level) → on_start_at o b (reacting s at₀) v ≡ on_start_at o b s v
-    same (Known l) b = refl
-    same Missing (Known l) = refl
-    same Missing Missing = refl
+    same (Some l) b = refl
+    same None (Some l) = refl
+    same None None = refl
 
--- the answer after event 7 (on) and refused events, in the state that they leave
+-- the answer after on and refused events, in the state that they leave
 module _ (s : LevelControlState) (at₀ at : Micros) (on₀ on : Bool) (es : List Event) (v c t T : ℕ) where
   abbrev pub left : EventKind → LevelControlState
   left k = state_after (event_of s (event at₀ on₀ k)).state es
@@ -163,25 +164,25 @@ module _ (s : LevelControlState) (at₀ at : Micros) (on₀ on : Bool) (es : Lis
       accepted s (event at₀ on₀ k) ≡ true → all_refused (event_of s (event at₀ on₀ k)).state es ≡ true → accepted (left k) (event at on a) ≡ true
       → Starting (event_of (left k) (event at on a)) at c t T
 
-  on_answers : on_start s v ≡ Fades c t T → Answers (kind.OnOffChanged true) (kind.Answer (device.Level v))
+  on_answers : on_start s v ≡ Fades c t T → Answers (kind.Command (command.OnOffChanged true)) (kind.Answer (device.Level v))
   on_answers named ok refusals answered =
-      let first : (event_of s (event at₀ on₀ (kind.OnOffChanged true))).state ≡ reacting s at₀ =
-      ap (λ (o : Outcome). o.state) (on_is s at₀ on₀ (accepted_zero s (event at₀ on₀ (kind.OnOffChanged true)) ok)) in
-      let same : left (kind.OnOffChanged true) ≡ reacting s at₀ = refused_stays _ es refusals ∙ first in
+      let first : (event_of s (event at₀ on₀ (kind.Command (command.OnOffChanged true)))).state ≡ reacting s at₀ =
+      ap (λ (o : Outcome). o.state) (on_is s at₀ on₀ (accepted_zero s (event at₀ on₀ (kind.Command (command.OnOffChanged true))) ok)) in
+      let same : left (kind.Command (command.OnOffChanged true)) ≡ reacting s at₀ = refused_stays _ es refusals ∙ first in
       let z : number_of (reacting s at₀) (event at on (kind.Answer (device.Level v))) ≡ 0 =
       accepted_zero (reacting s at₀) (event at on (kind.Answer (device.Level v)))
       (subst (λ (x : LevelControlState). accepted x (event at on (kind.Answer (device.Level v))) ≡ true) same answered) in
       subst (λ (x : LevelControlState). Starting (event_of x (event at on (kind.Answer (device.Level v)))) at c t T) (sym same)
       (reacting_starts s at₀ at on v c t T named z)
 
-  pub after_on_starts : (k a : EventKind) → k ≡ kind.OnOffChanged true → a ≡ kind.Answer (device.Level v) → on_start s v ≡ Fades c t T → Answers k a
+  pub after_on_starts : (k a : EventKind) → k ≡ kind.Command (command.OnOffChanged true) → a ≡ kind.Answer (device.Level v) → on_start s v ≡ Fades c t T → Answers k a
   after_on_starts k a q r named =
-      subst (λ (x : EventKind). Answers x a) (sym q) (subst (λ (x : EventKind). Answers (kind.OnOffChanged true) x) (sym r) (on_answers named))
+      subst (λ (x : EventKind). Answers x a) (sym q) (subst (λ (x : EventKind). Answers (kind.Command (command.OnOffChanged true)) x) (sym r) (on_answers named))
 
 pub starts : (o : Outcome) (c t T : ℕ) → Starts o c t T → (at : Micros) × Starting o at c t T
-starts _ _ _ _ (directly s e c t T ok named) = (e.at, direct_starts s e.at e.on_off c t T e.kind (accepted_zero s e ok) named)
+starts _ _ _ _ (directly s e c t T ok named) = (e.moment.at, direct_starts s e.moment.at e.moment.on_off c t T e.kind (accepted_zero s e ok) named)
 starts _ _ _ _ (after_on s e a es v c t T ok q refusals answered r named) =
-    (a.at, after_on_starts s e.at a.at e.on_off a.on_off es v c t T e.kind a.kind q r named ok refusals answered)
+    (a.moment.at, after_on_starts s e.moment.at a.moment.at e.moment.on_off a.moment.on_off es v c t T e.kind a.kind q r named ok refusals answered)
 
 -- what holds after the list
 pub kept : (o : Outcome) (c t T : ℕ) (es : List Event) → Starts o c t T → (pos : 1 ≤ T) (small : T ≤ 65535) → only_onward (started o) es ≡ true

@@ -1,4 +1,5 @@
 -- What holds between two events of a fade, and that each accepted answer with a level and each accepted wake keeps it. Assumes nothing.
+use Rattle.std.specs.Prelude.{Option, Some, None, ℕ}
 use Prim.Native.Nat.{ℕ, ◌+◌, ◌-◌, ◌*◌, ◌/◌, ◌≤◌, ◌<◌}
 use mathlib.Core.Bool.{Bool, true, false, cond, not, ◌||◌, false≢true}
 use mathlib.Core.Path.{◌≡◌, refl, sym, ap, ◌∙◌}
@@ -11,29 +12,24 @@ use lib.ListN.{length, length-append}
 use lib.Seq.{append_snoc}
 use Rattle.units.specs.declared.Micros.{Micros}
 use Rattle.units.specs.declared.Tenths.{Tenths}
-use Rattle.transitions.specs.Events.{event, turn_of}
+use Rattle.transitions.specs.Events.{event}
 use Rattle.transitions.specs.Fade.{next_level, remaining_after}
 use Rattle.transitions.specs.Tasks.{fade_last, fade_left, fade_next, fade_asking, fade_waiting, level_to_restore, task_open, task_due, phase_open, phase_due}
 use Rattle.transitions.specs.Types.{is_level}
-use Rattle.transitions.specs.declared.events.ActionKind.TheVariants.{P}
+use Rattle.transitions.specs.declared.actions.ActionKind.TheVariants.{P}
 use Rattle.transitions.specs.declared.events.DeviceAnswer.{DeviceAnswer}
 use Rattle.transitions.specs.declared.events.DeviceAnswer.TheVariants as device
 use Rattle.transitions.specs.declared.events.Event.{Event}
 use Rattle.transitions.specs.declared.events.EventKind.{EventKind}
 use Rattle.transitions.specs.declared.events.EventKind.TheVariants as kind
-use Rattle.transitions.specs.declared.events.Turn.TheVariants as turn
-use Rattle.transitions.specs.declared.fade.Next.{Next}
-use Rattle.transitions.specs.declared.fade.Next.TheVariants as next
-use Rattle.transitions.specs.declared.tasks.AfterFade.{AfterFade}
 use Rattle.transitions.specs.declared.tasks.Fade.{Fade}
 use Rattle.transitions.specs.declared.tasks.Phase.{Phase}
 use Rattle.transitions.specs.declared.tasks.Phase.TheVariants.{Asked, Waiting}
 use Rattle.transitions.specs.declared.tasks.Task.{Task}
 use Rattle.transitions.specs.declared.tasks.Task.TheVariants as task
-use Rattle.transitions.specs.declared.types.Level.{Level}
-use Rattle.transitions.specs.declared.types.Level.TheVariants.{Known, Missing}
+use Rattle.transitions.specs.Types.{Level}
 use Rattle.level_control.specs.State.{accept, with_task, with_level, with_remaining_time}
-use Rattle.transitions.specs.ActionList.{reports_of}
+use Rattle.transitions.specs.Actions.{reports_of}
 use Rattle.level_control.specs.Answer.{Outcome, done}
 use Rattle.level_control.specs.Reports.{write_remaining_time}
 use Rattle.level_control.specs.Fades.{fade_told, restored, fade_ended_by, fade_ended, fade_then, fade_goes_on, move_to_level_transition, fade_answered, fade_woken}
@@ -42,12 +38,13 @@ use Rattle.level_control.specs.Events.{fade_answered_in, answered_in, answered, 
 use Rattle.level_control.specs.Path.{path}
 use Rattle.level_control.specs.Run.{Run, Pending, Nothing, Request, Wait, asks, opened, closed_by, accepted, is_onward, next_by, next as next_run}
 use Rattle.level_control.specs.Starts.{distance}
-use Rattle.level_control.specs.declared.reports.Told.{Told}
+use Rattle.level_control.specs.Reports.{Told}
 use Rattle.level_control.specs.declared.state.LevelControlState.{LevelControlState}
 use Rattle.level_control.proofs.PathLaws.{path_step, path_end, length_path}
 use Rattle.level_control.proofs.TimeLaws.{shown_of, falls}
 use Rattle.level_control.proofs.SeenLaws.{Silent, silent_append, silent_if, silent_reports, asks_after, opened_after}
 use Rattle.level_control.proofs.EventLaws.{event_refused, event_runs, event_number, turn_passes}
+use Rattle.transitions.specs.declared.events.Command.TheVariants as command
 
 -- a running fade: what was asked for, with what is left to ask for, is the path; `unanswered` requests are open
 pub record Running (c t T : ℕ) (asked : List ℕ) (k shown target counter time left period unanswered : ℕ) : Type 0 where
@@ -158,13 +155,13 @@ module _ (c t T : ℕ) (pos : 1 ≤ T) where
         (record { no_ask = refl; no_open = λ p. refl });
   }
 
-  ends : (told : Told) (after : AfterFade) → Ends told (fade_ended told after)
+  ends : (told : Told) (after : Option ℕ) → Ends told (fade_ended told after)
   unfolding fade_ended
   ends told after = by (level_to_restore after told.state.attributes.on_level)
     where
       by : (l : Level) → Ends told (fade_ended_by l told)
-      by (Known before) = ends_restored told before
-      by Missing = ends_rest told
+      by (Some before) = ends_restored told before
+      by None = ends_rest told
 
   ended_keeps : (asked : List ℕ) (k : ℕ) (told : Told) (o : Outcome) → Ends told o → told.state.remaining_time.0 ≡ 0
       → (k ≡ distance t c) × (asked ≡ path c t) → After asked k o
@@ -177,9 +174,9 @@ module _ (c t T : ℕ) (pos : 1 ≤ T) where
   unfolding fade_goes_on fade_waiting fade_asking with_task
   goes_on f since at told asked k h = by (fade_next f since at)
     where
-      by : (n : Next) → After asked k (fade_then n told f at)
-      by (next.Wait until) = rw (asks_after, opened_after, append-nil) (h, refl)
-      by next.Ask = rw (asks_after, opened_after) (ask f.transition_time h, refl)
+      by : (n : Option Micros) → After asked k (fade_then n told f at)
+      by (Some until) = rw (asks_after, opened_after, append-nil) (h, refl)
+      by None = rw (asks_after, opened_after) (ask f.transition_time h, refl)
 
   -- what is left after an answer, at the end and before it
   left_last : (f : Fade) → f.counter ≡ f.target → (fade_left f).0 ≡ 0
@@ -255,25 +252,25 @@ module _ (c t T : ℕ) (pos : 1 ≤ T) where
     after_wake s at on asked k p (task.OnReaction r) o h = absurd h
 
     -- what was open is closed by the event
-    answer_closes : (asked : List ℕ) (k shown : ℕ) (p : Pending) (x : Task) → task_open x ≡ true → Inv c t T asked k shown p x
-        → closed_by turn.Answer p ≡ Nothing
-    answer_closes asked k shown p task.Rest o h = absurd (false≢true o)
-    answer_closes asked k shown p task.StartUp o h = absurd h
-    answer_closes asked k shown p (task.Fade f) o h = by f.phase o h.1
+    answer_closes : (a : DeviceAnswer) (asked : List ℕ) (k shown : ℕ) (p : Pending) (x : Task) → task_open x ≡ true → Inv c t T asked k shown p x
+        → closed_by (kind.Answer a) p ≡ Nothing
+    answer_closes a asked k shown p task.Rest o h = absurd (false≢true o)
+    answer_closes a asked k shown p task.StartUp o h = absurd h
+    answer_closes a asked k shown p (task.Fade f) o h = by f.phase o h.1
       where
-        by : (q : Phase) → phase_open q ≡ true → p ≡ pending_in q → closed_by turn.Answer p ≡ Nothing
+        by : (q : Phase) → phase_open q ≡ true → p ≡ pending_in q → closed_by (kind.Answer a) p ≡ Nothing
         by (Asked since) o e = rw e refl
         by (Waiting until) o e = absurd (false≢true o)
-    answer_closes asked k shown p (task.Move m) o h = absurd h
-    answer_closes asked k shown p (task.OnReaction r) o h = absurd h
+    answer_closes a asked k shown p (task.Move m) o h = absurd h
+    answer_closes a asked k shown p (task.OnReaction r) o h = absurd h
 
     wake_closes : (at : Micros) (asked : List ℕ) (k shown : ℕ) (p : Pending) (x : Task) → task_due x at ≡ true → Inv c t T asked k shown p x
-        → closed_by turn.Wake p ≡ Nothing
+        → closed_by kind.Wake p ≡ Nothing
     wake_closes at asked k shown p task.Rest o h = absurd (false≢true o)
     wake_closes at asked k shown p task.StartUp o h = absurd h
     wake_closes at asked k shown p (task.Fade f) o h = by f.phase o h.1
       where
-        by : (q : Phase) → phase_due q at ≡ true → p ≡ pending_in q → closed_by turn.Wake p ≡ Nothing
+        by : (q : Phase) → phase_due q at ≡ true → p ≡ pending_in q → closed_by kind.Wake p ≡ Nothing
         by (Asked since) o e = absurd (false≢true o)
         by (Waiting until) o e = rw e refl
     wake_closes at asked k shown p (task.Move m) o h = absurd h
@@ -283,7 +280,7 @@ module _ (c t T : ℕ) (pos : 1 ≤ T) where
     Kept r = Inv c t T r.asked r.answers r.state.remaining_time.0 r.pending r.state.task
 
     -- an accepted event, by its outcome
-    pub next_is : (r : Run) (e : Event) (o : Outcome) → event_of r.state e ≡ o → o.number ≡ 0 → next_run r e ≡ next_by true o (turn_of e.kind) r
+    pub next_is : (r : Run) (e : Event) (o : Outcome) → event_of r.state e ≡ o → o.number ≡ 0 → next_run r e ≡ next_by true o e.kind r
     unfolding next_run
     next_is r e o q z = rw q (rw (eq-eqb o.number 0 z) refl)
 
@@ -317,7 +314,7 @@ module _ (c t T : ℕ) (pos : 1 ≤ T) where
         let o : Outcome = answered_in s.task (accept s at) (device.Level v) at on in
         let is_open : task_open s.task ≡ true = is_open s at on (device.Level v) z in
         let zero : o.number ≡ 0 = ap (λ (x : Outcome). x.number) (sym (answer_is s at on v z)) ∙ event_number s e ∙ z in
-        rw (next_is r e o (answer_is s at on v z) zero, answer_closes r.asked r.answers s.remaining_time.0 r.pending s.task is_open h)
+        rw (next_is r e o (answer_is s at on v z) zero, answer_closes _ r.asked r.answers s.remaining_time.0 r.pending s.task is_open h)
         (after_answer (accept s at) v at on r.asked r.answers s.remaining_time.0 r.pending s.task is_open h)
 
     keep_wake : (r : Run) (at : Micros) (on : Bool) → number_of r.state (event at on kind.Wake) ≡ 0 → Kept r → Kept (next_run r (event at on kind.Wake))
@@ -333,22 +330,22 @@ module _ (c t T : ℕ) (pos : 1 ≤ T) where
     keep_onward : (r : Run) (at : Micros) (on : Bool) (k : EventKind) → is_onward k ≡ true → number_of r.state (event at on k) ≡ 0
         → Kept r → Kept (next_run r (event at on k))
     keep_onward r at on kind.StartUp w z h = absurd (false≢true w)
-    keep_onward r at on (kind.MoveToLevel x) w z h = absurd (false≢true w)
-    keep_onward r at on (kind.Move x) w z h = absurd (false≢true w)
-    keep_onward r at on (kind.Step x) w z h = absurd (false≢true w)
-    keep_onward r at on (kind.Stop x) w z h = absurd (false≢true w)
+    keep_onward r at on (kind.Command (command.MoveToLevel x)) w z h = absurd (false≢true w)
+    keep_onward r at on (kind.Command (command.Move x)) w z h = absurd (false≢true w)
+    keep_onward r at on (kind.Command (command.Step x)) w z h = absurd (false≢true w)
+    keep_onward r at on (kind.Command (command.Stop x)) w z h = absurd (false≢true w)
     keep_onward r at on (kind.Answer (device.Level v)) w z h = keep_answer r at on v z h
     keep_onward r at on (kind.Answer device.Missing) w z h = absurd (false≢true w)
     keep_onward r at on (kind.Answer device.Failed) w z h = absurd (false≢true w)
     keep_onward r at on kind.Wake w z h = keep_wake r at on z h
-    keep_onward r at on (kind.OnOffChanged x) w z h = absurd (false≢true w)
-    keep_onward r at on (kind.Scene x) w z h = absurd (false≢true w)
-    keep_onward r at on (kind.DeviceUpdate x) w z h = absurd (false≢true w)
-    keep_onward r at on kind.DeviceStop w z h = absurd (false≢true w)
-    keep_onward r at on (kind.SetOnLevel x) w z h = absurd (false≢true w)
-    keep_onward r at on (kind.SetDefaultMoveRate x) w z h = absurd (false≢true w)
-    keep_onward r at on (kind.SetStartUpCurrentLevel x) w z h = absurd (false≢true w)
-    keep_onward r at on kind.FactoryReset w z h = absurd (false≢true w)
+    keep_onward r at on (kind.Command (command.OnOffChanged x)) w z h = absurd (false≢true w)
+    keep_onward r at on (kind.Command (command.Scene x)) w z h = absurd (false≢true w)
+    keep_onward r at on (kind.Command (command.DeviceUpdate x)) w z h = absurd (false≢true w)
+    keep_onward r at on (kind.Command command.DeviceStop) w z h = absurd (false≢true w)
+    keep_onward r at on (kind.Command (command.SetOnLevel x)) w z h = absurd (false≢true w)
+    keep_onward r at on (kind.Command (command.SetDefaultMoveRate x)) w z h = absurd (false≢true w)
+    keep_onward r at on (kind.Command (command.SetStartUpCurrentLevel x)) w z h = absurd (false≢true w)
+    keep_onward r at on (kind.Command command.FactoryReset) w z h = absurd (false≢true w)
 
     -- a refused event leaves the run as it was
     pub refused_is : (r : Run) (e : Event) → (number_of r.state e ≡ 0 → ⊥) → next_run r e ≡ r
@@ -363,5 +360,5 @@ module _ (c t T : ℕ) (pos : 1 ≤ T) where
         go true q =
             let z = eqb-true (number_of r.state e) 0 q in
             let onward : is_onward e.kind ≡ true = rw (event_number r.state e, q) at w in
-            keep_onward r e.at e.on_off e.kind onward z h
+            keep_onward r e.moment.at e.moment.on_off e.kind onward z h
         go false q = rw (refused_is r e (eqb-false (number_of r.state e) 0 q)) h

@@ -1,3 +1,4 @@
+pub mod ActionLaws
 pub mod AnswerLaws
 pub mod PathLaws
 pub mod TimeLaws

@@ -1,17 +1,16 @@
 -- What is seen of a list of actions: reports ask for nothing and open nothing. Assumes nothing.
+use Rattle.std.specs.Prelude.{Option, Some, None, Bool}
 use Prim.Native.Nat.{ℕ}
 use mathlib.Core.Bool.{Bool, true, false}
 use mathlib.Core.Path.{◌≡◌, refl, ap, ◌∙◌}
 use mathlib.Core.List.{List, [], ◌∷◌, ◌++◌, append_assoc}
 use Rattle.transitions.specs.Events.{act, act_if, act_coupled}
-use Rattle.transitions.specs.declared.coupling.Coupling.{Coupling}
-use Rattle.transitions.specs.declared.coupling.Coupling.TheVariants.{Sent, NotSent}
-use Rattle.transitions.specs.declared.events.Action.{Action}
-use Rattle.transitions.specs.declared.events.ActionKind.{ActionKind}
-use Rattle.transitions.specs.declared.events.ActionKind.TheVariants.{P, S, L, R}
-use Rattle.transitions.specs.ActionList.{reports_of}
+use Rattle.transitions.specs.declared.actions.Action.{Action}
+use Rattle.transitions.specs.declared.actions.ActionKind.{ActionKind}
+use Rattle.transitions.specs.declared.actions.ActionKind.TheVariants.{P, S, L, R}
+use Rattle.transitions.specs.Actions.{reports_of}
 use Rattle.level_control.specs.Run.{Pending, asked_by, asks, opened_by, opened}
-use Rattle.transitions.specs.declared.action_list.Reports.{Reports}
+use Rattle.transitions.specs.Actions.{Reports}
 
 pub asks_append : (l r : List Action) → asks (l ++ r) ≡ asks l ++ asks r
 asks_append [] r = refl
@@ -40,10 +39,10 @@ pub silent_if : (k : ActionKind) (test : Bool) → Silent (act k 0) → Silent (
 silent_if k true h = h
 silent_if k false h = silent_nil
 
-pub silent_coupled : (c : Coupling) → Silent (act_coupled c)
-silent_coupled (Sent true) = record { no_ask = refl; no_open = λ p. refl }
-silent_coupled (Sent false) = record { no_ask = refl; no_open = λ p. refl }
-silent_coupled NotSent = silent_nil
+pub silent_coupled : (c : Option Bool) → Silent (act_coupled c)
+silent_coupled (Some true) = record { no_ask = refl; no_open = λ p. refl }
+silent_coupled (Some false) = record { no_ask = refl; no_open = λ p. refl }
+silent_coupled None = silent_nil
 
 pub silent_reports : (r : Reports) → Silent (reports_of r)
 unfolding reports_of

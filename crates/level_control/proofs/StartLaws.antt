@@ -1,4 +1,5 @@
 -- Where `start_of` and `on_start` name a fade, the machine starts it. Assumes nothing.
+use Rattle.std.specs.Prelude.{Some, None, Result, Ok}
 use Prim.Native.Nat.{ℕ, ◌+◌, ◌-◌, ◌*◌, ◌/◌, min, max}
 use mathlib.Core.Bool.{Bool, true, false, cond, not, ◌&&◌, ◌||◌, true≢false, false≢true}
 use mathlib.Core.Path.{◌≡◌, refl, sym, ap, ◌∙◌}
@@ -15,9 +16,7 @@ use Rattle.transitions.specs.Commands.{target_level, step_level, step_time, is_o
 use Rattle.transitions.specs.Events.{act, event}
 use Rattle.transitions.specs.Tasks.{begin_fade, fade_from}
 use Rattle.transitions.specs.Types.{level_or, time_or}
-use Rattle.transitions.specs.declared.commands.StepTime.{StepTime}
-use Rattle.transitions.specs.declared.commands.StepTime.TheVariants.{Takes}
-use Rattle.transitions.specs.declared.events.ActionKind.TheVariants.{D}
+use Rattle.transitions.specs.declared.actions.ActionKind.TheVariants.{D}
 use Rattle.transitions.specs.declared.events.DeviceAnswer.TheVariants as device
 use Rattle.transitions.specs.declared.events.Event.{Event}
 use Rattle.transitions.specs.declared.events.EventKind.{EventKind}
@@ -30,17 +29,15 @@ use Rattle.transitions.specs.declared.tasks.OnReaction.{OnReaction}
 use Rattle.transitions.specs.declared.tasks.Begin.TheVariants as begin
 use Rattle.transitions.specs.declared.tasks.Task.{Task}
 use Rattle.transitions.specs.declared.tasks.Task.TheVariants as task
-use Rattle.transitions.specs.declared.types.Level.{Level}
-use Rattle.transitions.specs.declared.types.Level.TheVariants.{Known, Missing}
+use Rattle.transitions.specs.Types.{Level}
 use Rattle.transitions.specs.declared.types.Mode.{Mode}
 use Rattle.transitions.specs.declared.types.Mode.TheVariants.{Up, Down}
 use Rattle.transitions.specs.declared.types.OptionsBitmap.{OptionsBitmap}
-use Rattle.transitions.specs.declared.types.Time.{Time}
-use Rattle.transitions.specs.declared.types.Time.TheVariants as time
+use Rattle.transitions.specs.Types.{Time}
 use Rattle.transitions.proofs.Booleans.{and_first, and_second}
 use Rattle.transitions.proofs.MatterLaws.{matter_agrees}
 use Rattle.level_control.specs.State.{accept, with_task, with_answered}
-use Rattle.transitions.specs.ActionList.{reports_of}
+use Rattle.transitions.specs.Actions.{reports_of}
 use Rattle.level_control.specs.Answer.{Outcome, done}
 use Rattle.level_control.specs.Reports.{continues, set_level, told_level}
 use Rattle.level_control.specs.Targets.{quiet, request_to, go_to_by, go_to, moved_to_level, stepped_level, stepped_time, stepped_by, stepped_from, stepped, recalled_at, recalled}
@@ -49,9 +46,11 @@ use Rattle.level_control.specs.Causes.{move_to_level_tests, step_tests, overflow
 use Rattle.level_control.specs.Events.{answered_in, answered, run, number_of, event_of}
 use Rattle.level_control.specs.Run.{accepted, all_refused, state_after}
 use Rattle.level_control.specs.Starts.{Start, NoFade, Fades, start_from, target, passes, when, given_or, step_to, distance, step_in, step_start, scene_start, start_of, on_start_at}
-use Rattle.level_control.specs.declared.reports.Told.{Told}
+use Rattle.level_control.specs.Reports.{Told}
 use Rattle.level_control.specs.declared.state.LevelControlState.{LevelControlState}
 use Rattle.level_control.proofs.EventLaws.{event_refused, event_runs, event_number, command_passes}
+use Rattle.transitions.specs.declared.causes.Refusal.{Refusal}
+use Rattle.transitions.specs.declared.events.Command.TheVariants as command
 
 -- Taking a named fade apart.
 
@@ -63,21 +62,21 @@ when_fades true x c t T e = (refl, e)
 when_fades false x c t T e = no_fade c t T e
 
 pub record From (l : Level) (to within : ℕ) (c t T : ℕ) : Type 0 where
-  pub level : l ≡ Known c
+  pub level : l ≡ Some c
   pub target : to ≡ t
   pub time : within ≡ T
   pub apart : c ≡ to → ⊥
 
 pub from_fades : (l : Level) (to within c t T : ℕ) → start_from l to within ≡ Fades c t T → From l to within c t T
-from_fades (Known from) to within c t T e = go (eqb from to) refl
+from_fades (Some from) to within c t T e = go (eqb from to) refl
   where
-    go : (b : Bool) → eqb from to ≡ b → From (Known from) to within c t T
+    go : (b : Bool) → eqb from to ≡ b → From (Some from) to within c t T
     go true q = no_fade c t T (rw q at e)
     go false q =
         let same : Fades from to within ≡ Fades c t T = rw q at e in
         let first : from ≡ c = cc in
-        record { level = ap Known first; target = cc; time = cc; apart = λ z. eqb-false from to q (first ∙ z) }
-from_fades Missing to within c t T e = no_fade c t T e
+        record { level = ap Some first; target = cc; time = cc; apart = λ z. eqb-false from to q (first ∙ z) }
+from_fades None to within c t T e = no_fade c t T e
 
 up : (c size lo hi : ℕ) → step_level Up c size lo hi ≡ min hi (min 255 (c + size))
 unfolding step_level
@@ -89,14 +88,14 @@ down c size lo hi = omega arith
 
 -- What the two ways of writing a target, a time and the options have in common.
 
-pub target_is : (s : LevelControlState) (level : ℕ) → target_level level s.settings.min_level s.settings.max_level ≡ target s level
+pub target_is : (s : LevelControlState) (level : ℕ) → target_level level s.settings.range.min s.settings.range.max ≡ target s level
 unfolding target_level
 target_is s level = refl
 
 pub given_is : (x : Time) (other : Tenths) → (time_or x other).0 ≡ given_or x other.0
 unfolding time_or
-given_is (time.Known t) other = refl
-given_is time.Missing other = refl
+given_is (Some t) other = refl
+given_is None other = refl
 
 pub continues_is : (s : LevelControlState) (with_on_off on : Bool) (mask override : OptionsBitmap)
     → continues s with_on_off on mask override ≡ passes s with_on_off on mask override
@@ -123,25 +122,25 @@ pub step_is : (s : LevelControlState) (c : ℕ) (r : StepRequest) → stepped_le
 unfolding stepped_level
 step_is s c r = by r.mode
   where
-    by : (m : Mode) → step_level m c r.step_size s.settings.min_level s.settings.max_level ≡ step_to m s c r.step_size
-    by Up = up c r.step_size s.settings.min_level s.settings.max_level
-    by Down = down c r.step_size s.settings.min_level s.settings.max_level
+    by : (m : Mode) → step_level m c r.step_size s.settings.range.min s.settings.range.max ≡ step_to m s c r.step_size
+    by Up = up c r.step_size s.settings.range.min s.settings.range.max
+    by Down = down c r.step_size s.settings.range.min s.settings.range.max
 
 pub takes : (given : Time) (actual size : ℕ) → is_overflow (step_time given actual size) ≡ false
-    → (x : Tenths) × (step_time given actual size ≡ Takes x) × (x.0 ≡ step_in given actual size)
+    → (x : Tenths) × (step_time given actual size ≡ Ok x) × (x.0 ≡ step_in given actual size)
 unfolding step_time scaled_floor
-takes time.Missing actual size h = (tenths 0, refl, refl)
-takes (time.Known t) actual size h = go (eqb actual size) refl (ltb 65535 (t.0 * actual)) refl
+takes None actual size h = (tenths 0, refl, refl)
+takes (Some t) actual size h = go (eqb actual size) refl (ltb 65535 (t.0 * actual)) refl
   where
     go : (b : Bool) → eqb actual size ≡ b → (l : Bool) → ltb 65535 (t.0 * actual) ≡ l
-        → (x : Tenths) × (step_time (time.Known t) actual size ≡ Takes x) × (x.0 ≡ step_in (time.Known t) actual size)
+        → (x : Tenths) × (step_time (Some t) actual size ≡ Ok x) × (x.0 ≡ step_in (Some t) actual size)
     go true e l f = (t, simp e, simp e)
     go false e true f = absurd (true≢false (simp (e, f) at h))
     go false e false f = (tenths (t.0 * actual / size), simp (e, f), simp e)
 
 -- The start of a fade.
 
-pub go_to_starts : (told : Told) (r : FadeRequest) (at : Micros) (on : Bool) (c : ℕ) → told.state.current_level ≡ Known c → (c ≡ r.target → ⊥)
+pub go_to_starts : (told : Told) (r : FadeRequest) (at : Micros) (on : Bool) (c : ℕ) → told.state.current_level ≡ Some c → (c ≡ r.target → ⊥)
     → go_to told r at on
     ≡ done (with_task told.state (task.Fade (fade_from c r at))) (reports_of told.reports ++ act D (fade_from c r at).counter)
 unfolding go_to begin_fade
@@ -159,8 +158,8 @@ go_to_rests told r at on T e = by told.state.current_level e
     go c false e = no_fade c r.target T (sym e)
 
     by : (l : Level) → start_from l r.target T ≡ NoFade → (go_to_by (begin_fade l r at) told r on).state.task ≡ task.Rest
-    by (Known c) e = go c (eqb c r.target) e
-    by Missing e = refl
+    by (Some c) e = go c (eqb c r.target) e
+    by None e = refl
 
 -- an outcome in which a fade from c to t in T tenths starts at a time
 pub record Starting (o : Outcome) (at : Micros) (c t T : ℕ) : Type 0 where
@@ -168,26 +167,26 @@ pub record Starting (o : Outcome) (at : Micros) (c t T : ℕ) : Type 0 where
   pub request : FadeRequest
   pub on : Bool
   pub outcome : o ≡ go_to told request at on
-  pub level : told.state.current_level ≡ Known c
+  pub level : told.state.current_level ≡ Some c
   pub target : request.target ≡ t
   pub time : request.transition_time.0 ≡ T
   pub apart : c ≡ request.target → ⊥
   pub last : told.state.last_accepted ≡ at
 
 module _ (s : LevelControlState) (at : Micros) (on : Bool) (c t T : ℕ) where
-  move_to_level_starts : (r : MoveToLevelRequest) → number_of s (event at on (kind.MoveToLevel r)) ≡ 0
-      → start_of s on (kind.MoveToLevel r) ≡ Fades c t T → Starting (event_of s (event at on (kind.MoveToLevel r))) at c t T
+  move_to_level_starts : (r : MoveToLevelRequest) → number_of s (event at on (kind.Command (command.MoveToLevel r))) ≡ 0
+      → start_of s on (kind.Command (command.MoveToLevel r)) ≡ Fades c t T → Starting (event_of s (event at on (kind.Command (command.MoveToLevel r)))) at c t T
   unfolding start_of run moved_to_level accept command_tests_of move_to_level_tests
   move_to_level_starts r z e =
-      let lets = when_fades (leb 255 r.level || passes s r.with_on_off on r.options_mask r.options_override)
+      let lets = when_fades (leb 255 r.level || passes s r.options.with_on_off on r.options.options_mask r.options.options_override)
       (start_from s.current_level (target s r.level) (given_or r.transition_time 0)) c t T e in
       let from = from_fades _ _ _ c t T lets.1 in
-      let pass = rw (← continues_is s r.with_on_off on r.options_mask r.options_override) at lets.0 in
+      let pass = rw (← continues_is s r.options.with_on_off on r.options.options_mask r.options.options_override) at lets.0 in
       record {
         told = quiet (accept s at);
-        request = request_to (accept s at) r.level (time_or r.transition_time (tenths 0)) r.with_on_off false false;
+        request = request_to (accept s at) r.level (time_or r.transition_time (tenths 0)) r.options.with_on_off false false;
         on = on;
-        outcome = event_runs s (event at on (kind.MoveToLevel r)) z (not_stopped r.level _ pass);
+        outcome = event_runs s (event at on (kind.Command (command.MoveToLevel r))) z (not_stopped r.level _ pass);
         level = from.level;
         target = target_is s r.level ∙ from.target;
         time = given_is r.transition_time (tenths 0) ∙ from.time;
@@ -195,34 +194,34 @@ module _ (s : LevelControlState) (at : Micros) (on : Bool) (c t T : ℕ) where
         last = refl;
       }
 
-  off_starts : number_of s (event at on (kind.OnOffChanged false)) ≡ 0
-      → start_of s on (kind.OnOffChanged false) ≡ Fades c t T → Starting (event_of s (event at on (kind.OnOffChanged false))) at c t T
+  off_starts : number_of s (event at on (kind.Command (command.OnOffChanged false))) ≡ 0
+      → start_of s on (kind.Command (command.OnOffChanged false)) ≡ Fades c t T → Starting (event_of s (event at on (kind.Command (command.OnOffChanged false)))) at c t T
   unfolding start_of run switched turned_off off_time accept command_tests_of
   off_starts z e =
       let from = from_fades _ _ _ c t T e in
       record {
         told = quiet (accept s at);
-        request = request_to (accept s at) s.settings.min_level (off_time (accept s at)) true false true;
+        request = request_to (accept s at) s.settings.range.min (off_time (accept s at)) true false true;
         on = on;
-        outcome = event_runs s (event at on (kind.OnOffChanged false)) z refl;
+        outcome = event_runs s (event at on (kind.Command (command.OnOffChanged false))) z refl;
         level = from.level;
-        target = target_is s s.settings.min_level ∙ from.target;
+        target = target_is s s.settings.range.min ∙ from.target;
         time = given_is s.attributes.off_transition_time s.attributes.on_off_transition_time ∙ from.time;
-        apart = λ q. from.apart (q ∙ target_is s s.settings.min_level);
+        apart = λ q. from.apart (q ∙ target_is s s.settings.range.min);
         last = refl;
       }
 
-  scene_starts : (r : SceneRequest) → number_of s (event at on (kind.Scene r)) ≡ 0
-      → start_of s on (kind.Scene r) ≡ Fades c t T → Starting (event_of s (event at on (kind.Scene r))) at c t T
+  scene_starts : (r : SceneRequest) → number_of s (event at on (kind.Command (command.Scene r))) ≡ 0
+      → start_of s on (kind.Command (command.Scene r)) ≡ Fades c t T → Starting (event_of s (event at on (kind.Command (command.Scene r)))) at c t T
   unfolding start_of run recalled accept command_tests_of scene_tests
   scene_starts r z e = by r.level refl
     where
       none : OptionsBitmap
       none = record { 0 = 0 }
 
-      by : (l : Level) → r.level ≡ l → Starting (event_of s (event at on (kind.Scene r))) at c t T
-      by (Known level) q =
-          let named : scene_start (Known level) s on r.transition_time.0 ≡ Fades c t T = rw q at e in
+      by : (l : Level) → r.level ≡ l → Starting (event_of s (event at on (kind.Command (command.Scene r)))) at c t T
+      by (Some level) q =
+          let named : scene_start (Some level) s on r.transition_time.0 ≡ Fades c t T = rw q at e in
           let lets = when_fades (leb 255 level || passes s false on none none)
           (start_from s.current_level (target s level) (tenths_down r.transition_time).0) c t T named in
           let from = from_fades _ _ _ c t T lets.1 in
@@ -232,40 +231,40 @@ module _ (s : LevelControlState) (at : Micros) (on : Bool) (c t T : ℕ) where
             told = quiet (accept s at);
             request = request_to (accept s at) level (tenths_down r.transition_time) false true false;
             on = on;
-            outcome = event_runs s (event at on (kind.Scene r)) z free ∙ ap (λ (l : Level). recalled_at l (accept s at) r at on) q;
+            outcome = event_runs s (event at on (kind.Command (command.Scene r))) z free ∙ ap (λ (l : Level). recalled_at l (accept s at) r at on) q;
             level = from.level;
             target = target_is s level ∙ from.target;
             time = from.time;
             apart = λ x. from.apart (x ∙ target_is s level);
             last = refl;
           }
-      by Missing q = no_fade c t T (rw q at e)
+      by None q = no_fade c t T (rw q at e)
 
-  step_starts : (r : StepRequest) → number_of s (event at on (kind.Step r)) ≡ 0
-      → start_of s on (kind.Step r) ≡ Fades c t T → Starting (event_of s (event at on (kind.Step r))) at c t T
+  step_starts : (r : StepRequest) → number_of s (event at on (kind.Command (command.Step r))) ≡ 0
+      → start_of s on (kind.Command (command.Step r)) ≡ Fades c t T → Starting (event_of s (event at on (kind.Command (command.Step r)))) at c t T
   unfolding start_of run stepped accept command_tests_of step_tests number_of step_overflows stepped_time stepped_level
   step_starts r z e = by s.current_level refl
     where
       pass : Bool
-      pass = passes s r.with_on_off on r.options_mask r.options_override
+      pass = passes s r.options.with_on_off on r.options.options_mask r.options.options_override
 
-      by : (l : Level) → s.current_level ≡ l → Starting (event_of s (event at on (kind.Step r))) at c t T
-      by (Known level) q =
+      by : (l : Level) → s.current_level ≡ l → Starting (event_of s (event at on (kind.Command (command.Step r)))) at c t T
+      by (Some level) q =
           let lets = when_fades pass (step_start s.current_level s r) c t T e in
-          let named : step_start (Known level) s r ≡ Fades c t T = ap (λ (l : Level). step_start l s r) (sym q) ∙ lets.1 in
+          let named : step_start (Some level) s r ≡ Fades c t T = ap (λ (l : Level). step_start l s r) (sym q) ∙ lets.1 in
           let from = from_fades _ _ _ c t T named in
-          let free : not (continues s r.with_on_off on r.options_mask r.options_override) ≡ false =
+          let free : not (continues s r.options.with_on_off on r.options.options_mask r.options.options_override) ≡ false =
           freed lets.0 in
-          let fits : overflows_from (Known level) s r ≡ false = ap (λ (l : Level). overflows_from l s r) (sym q) ∙ (command_passes _ _ z free).fits in
+          let fits : overflows_from (Some level) s r ≡ false = ap (λ (l : Level). overflows_from l s r) (sym q) ∙ (command_passes _ _ z free).fits in
           let took = takes r.transition_time (apart (stepped_level s level r) level) r.step_size fits in
           record {
             told = quiet (accept s at);
-            request = request_to (accept s at) (stepped_level s level r) took.0 r.with_on_off false false;
+            request = request_to (accept s at) (stepped_level s level r) took.0 r.options.with_on_off false false;
             on = on;
             outcome =
-                event_runs s (event at on (kind.Step r)) z free
+                event_runs s (event at on (kind.Command (command.Step r))) z free
                 ∙ ap (λ (l : Level). stepped_from l (accept s at) r at on) q
-                ∙ ap (λ (x : StepTime). stepped_by x (accept s at) level r at on) took.1;
+                ∙ ap (λ (x : Result Tenths Refusal). stepped_by x (accept s at) level r at on) took.1;
             level = q ∙ from.level;
             target = target_is s (stepped_level s level r) ∙ ap (target s) (step_is s level r) ∙ from.target;
             time = took.2 ∙ ap (λ (x : ℕ). step_in r.transition_time (distance x level) r.step_size) (step_is s level r) ∙ from.time;
@@ -273,39 +272,39 @@ module _ (s : LevelControlState) (at : Micros) (on : Bool) (c t T : ℕ) where
             last = refl;
           }
         where
-          freed : pass ≡ true → not (continues s r.with_on_off on r.options_mask r.options_override) ≡ false
-          freed h = rw (continues_is s r.with_on_off on r.options_mask r.options_override, h) refl
-      by Missing q = no_fade c t T (ap (λ (l : Level). step_start l s r) (sym q) ∙ (when_fades pass (step_start s.current_level s r) c t T e).1)
+          freed : pass ≡ true → not (continues s r.options.with_on_off on r.options.options_mask r.options.options_override) ≡ false
+          freed h = rw (continues_is s r.options.with_on_off on r.options.options_mask r.options.options_override, h) refl
+      by None q = no_fade c t T (ap (λ (l : Level). step_start l s r) (sym q) ∙ (when_fades pass (step_start s.current_level s r) c t T e).1)
 
   pub direct_starts : (k : EventKind) → number_of s (event at on k) ≡ 0 → start_of s on k ≡ Fades c t T → Starting (event_of s (event at on k)) at c t T
   unfolding start_of
   direct_starts kind.StartUp z e = no_fade c t T e
-  direct_starts (kind.MoveToLevel r) z e = move_to_level_starts r z e
-  direct_starts (kind.Move r) z e = no_fade c t T e
-  direct_starts (kind.Step r) z e = step_starts r z e
-  direct_starts (kind.Stop r) z e = no_fade c t T e
+  direct_starts (kind.Command (command.MoveToLevel r)) z e = move_to_level_starts r z e
+  direct_starts (kind.Command (command.Move r)) z e = no_fade c t T e
+  direct_starts (kind.Command (command.Step r)) z e = step_starts r z e
+  direct_starts (kind.Command (command.Stop r)) z e = no_fade c t T e
   direct_starts (kind.Answer a) z e = no_fade c t T e
   direct_starts kind.Wake z e = no_fade c t T e
-  direct_starts (kind.OnOffChanged true) z e = no_fade c t T e
-  direct_starts (kind.OnOffChanged false) z e = off_starts z e
-  direct_starts (kind.Scene r) z e = scene_starts r z e
-  direct_starts (kind.DeviceUpdate level) z e = no_fade c t T e
-  direct_starts kind.DeviceStop z e = no_fade c t T e
-  direct_starts (kind.SetOnLevel level) z e = no_fade c t T e
-  direct_starts (kind.SetDefaultMoveRate rate) z e = no_fade c t T e
-  direct_starts (kind.SetStartUpCurrentLevel level) z e = no_fade c t T e
-  direct_starts kind.FactoryReset z e = no_fade c t T e
+  direct_starts (kind.Command (command.OnOffChanged true)) z e = no_fade c t T e
+  direct_starts (kind.Command (command.OnOffChanged false)) z e = off_starts z e
+  direct_starts (kind.Command (command.Scene r)) z e = scene_starts r z e
+  direct_starts (kind.Command (command.DeviceUpdate level)) z e = no_fade c t T e
+  direct_starts (kind.Command command.DeviceStop) z e = no_fade c t T e
+  direct_starts (kind.Command (command.SetOnLevel level)) z e = no_fade c t T e
+  direct_starts (kind.Command (command.SetDefaultMoveRate rate)) z e = no_fade c t T e
+  direct_starts (kind.Command (command.SetStartUpCurrentLevel level)) z e = no_fade c t T e
+  direct_starts (kind.Command command.FactoryReset) z e = no_fade c t T e
 
--- After event 7 (on).
+-- After on.
 
 -- the state in which its request for MIN is open
 abbrev pub reacting : LevelControlState → Micros → LevelControlState
 reacting s at = with_task (accept s at) (task.OnReaction (record { before = s.current_level }))
 
-pub on_is : (s : LevelControlState) (at : Micros) (on : Bool) → number_of s (event at on (kind.OnOffChanged true)) ≡ 0
-    → event_of s (event at on (kind.OnOffChanged true)) ≡ done (reacting s at) (act D s.settings.min_level)
+pub on_is : (s : LevelControlState) (at : Micros) (on : Bool) → number_of s (event at on (kind.Command (command.OnOffChanged true))) ≡ 0
+    → event_of s (event at on (kind.Command (command.OnOffChanged true))) ≡ done (reacting s at) (act D s.settings.range.min)
 unfolding run switched turned_on accept with_task command_tests_of
-on_is s at on z = event_runs s (event at on (kind.OnOffChanged true)) z refl
+on_is s at on z = event_runs s (event at on (kind.Command (command.OnOffChanged true))) z refl
 
 -- a list of refused events leaves the state as it was
 pub refused_stays : (s : LevelControlState) (es : List Event) → all_refused s es ≡ true → state_after s es ≡ s
@@ -320,7 +319,7 @@ refused_stays s (e ∷ es) h =
 -- the answer v in any state in which the on reaction's request is open, with the level before
 module _ (s : LevelControlState) (before : Level) (at : Micros) (on : Bool) (v : ℕ) where
   abbrev pub told : Told
-  told = told_level (accept s at) (Known v) at false
+  told = told_level (accept s at) (Some v) at false
 
   abbrev pub on_answer : Outcome
   on_answer = on_goes_on told (record { before = before }) at on
@@ -328,25 +327,25 @@ module _ (s : LevelControlState) (before : Level) (at : Micros) (on : Bool) (v :
   abbrev on_request : ℕ → FadeRequest
   on_request l = request_to told.state l (on_time told.state) true false false
 
-  -- what part 9 names when it leads to a level
+  -- what is named when it leads to a level
   abbrev on_given : ℕ
   on_given = given_or s.attributes.on_transition_time s.attributes.on_off_transition_time.0
 
   abbrev to_level : ℕ → Start
-  to_level l = start_from (Known v) (target s l) on_given
+  to_level l = start_from (Some v) (target s l) on_given
 
-  -- "to `on_level`, else to the level before", or there is nothing to return to
-  returns : (o b : Level) → ((l : ℕ) × (level_or o b ≡ Known l) × (on_start_at o b s v ≡ to_level l)) ⊎ ((level_or o b ≡ Missing) × (on_start_at o b s v ≡ NoFade))
+  -- the on level, else the level before, or there is nothing to return to
+  returns : (o b : Level) → ((l : ℕ) × (level_or o b ≡ Some l) × (on_start_at o b s v ≡ to_level l)) ⊎ ((level_or o b ≡ None) × (on_start_at o b s v ≡ NoFade))
   unfolding level_or
-  returns (Known l) b = inl (l, refl, refl)
-  returns Missing (Known l) = inl (l, refl, refl)
-  returns Missing Missing = inr (refl, refl)
+  returns (Some l) b = inl (l, refl, refl)
+  returns None (Some l) = inl (l, refl, refl)
+  returns None None = inr (refl, refl)
 
   goes_to : (l : Level) → level_or s.attributes.on_level before ≡ l → on_answer ≡ on_to l told at on
   unfolding on_goes_on told_level set_level with_answered accept
   goes_to l q = ap (λ (x : Level). on_to x told at on) q
 
-  told_level_known : told.state.current_level ≡ Known v
+  told_level_known : told.state.current_level ≡ Some v
   unfolding told_level set_level with_answered
   told_level_known = refl
 
@@ -365,8 +364,8 @@ module _ (s : LevelControlState) (before : Level) (at : Micros) (on : Bool) (v :
   pub on_starts : (c t T : ℕ) → on_start_at s.attributes.on_level before s v ≡ Fades c t T → Starting on_answer at c t T
   on_starts c t T e = by (returns s.attributes.on_level before)
     where
-      by : ((l : ℕ) × (level_or s.attributes.on_level before ≡ Known l) × (on_start_at s.attributes.on_level before s v ≡ to_level l))
-          ⊎ ((level_or s.attributes.on_level before ≡ Missing) × (on_start_at s.attributes.on_level before s v ≡ NoFade))
+      by : ((l : ℕ) × (level_or s.attributes.on_level before ≡ Some l) × (on_start_at s.attributes.on_level before s v ≡ to_level l))
+          ⊎ ((level_or s.attributes.on_level before ≡ None) × (on_start_at s.attributes.on_level before s v ≡ NoFade))
           → Starting on_answer at c t T
       by (inl (l, q, n)) =
           let from = from_fades _ _ _ c t T (sym n ∙ e) in
@@ -374,7 +373,7 @@ module _ (s : LevelControlState) (before : Level) (at : Micros) (on : Bool) (v :
             told = told;
             request = on_request l;
             on = on;
-            outcome = goes_to (Known l) q;
+            outcome = goes_to (Some l) q;
             level = told_level_known ∙ from.level;
             target = on_target l ∙ from.target;
             time = on_time_given ∙ from.time;
@@ -383,22 +382,22 @@ module _ (s : LevelControlState) (before : Level) (at : Micros) (on : Bool) (v :
           }
       by (inr (q, n)) = no_fade c t T (sym n ∙ e)
 
-  -- and where part 9 names none, the task ends
+  -- and where no fade is named, the task ends
   pub on_rests : on_start_at s.attributes.on_level before s v ≡ NoFade → on_answer.state.task ≡ task.Rest
   unfolding with_task
   on_rests e = by (returns s.attributes.on_level before)
     where
-      by : ((l : ℕ) × (level_or s.attributes.on_level before ≡ Known l) × (on_start_at s.attributes.on_level before s v ≡ to_level l))
-          ⊎ ((level_or s.attributes.on_level before ≡ Missing) × (on_start_at s.attributes.on_level before s v ≡ NoFade))
+      by : ((l : ℕ) × (level_or s.attributes.on_level before ≡ Some l) × (on_start_at s.attributes.on_level before s v ≡ to_level l))
+          ⊎ ((level_or s.attributes.on_level before ≡ None) × (on_start_at s.attributes.on_level before s v ≡ NoFade))
           → on_answer.state.task ≡ task.Rest
       by (inl (l, q, n)) =
-          ap (λ (o : Outcome). o.state.task) (goes_to (Known l) q)
+          ap (λ (o : Outcome). o.state.task) (goes_to (Some l) q)
           ∙ go_to_rests told (on_request l) at on on_given
           (ap (λ (x : ℕ). start_from told.state.current_level x on_given) (on_target l)
           ∙ ap (λ (x : Level). start_from x (target s l) on_given) told_level_known
           ∙ sym n
           ∙ e)
-      by (inr (q, n)) = ap (λ (o : Outcome). o.state.task) (goes_to Missing q)
+      by (inr (q, n)) = ap (λ (o : Outcome). o.state.task) (goes_to None q)
 
 pub on_answered_is : (s : LevelControlState) (r : OnReaction) (at : Micros) (on : Bool) (v : ℕ) → s.task ≡ task.OnReaction r
     → number_of s (event at on (kind.Answer (device.Level v))) ≡ 0

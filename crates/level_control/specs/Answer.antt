@@ -1,11 +1,12 @@
--- "Answer: number, state, and a list of at most seven actions": what an event gives, and how the code's array holds it.
-use Rattle.std.specs.Prelude.{ℕ, min, List, [], ◌++◌, length, take, replicate}
-use Rattle.transitions.specs.ActionList.{actions_of}
+-- Events and answers: what an event gives, and how the code's array holds it.
+use Rattle.std.specs.Prelude.{ℕ, min, Option, Result, Ok, Err, List, [], ◌∷◌, ◌++◌, eqb, length, take, replicate, find}
+use Rattle.transitions.specs.Causes.{refusal_number}
 use Rattle.transitions.specs.Events.{action}
-use Rattle.transitions.specs.declared.events.Action.{Action}
-use Rattle.transitions.specs.declared.events.ActionKind.TheVariants.{X}
+use Rattle.transitions.specs.declared.actions.Action.{Action}
+use Rattle.transitions.specs.declared.actions.ActionKind.TheVariants.{X}
+use Rattle.transitions.specs.declared.causes.Refusal.{Refusal}
+use Rattle.transitions.specs.declared.causes.Refusal.TheVariants.{TimeRefused, AnswerOpen, NoAnswerOpen, WakeRefused, StartUpLate, InvalidCommand, InvalidInState, ProductTooLarge, LevelOutside, RateZero}
 use Rattle.level_control.specs.declared.answer.Answer.{Answer}
-use Rattle.level_control.specs.declared.answer.Effect.{Effect}
 use Rattle.level_control.specs.declared.state.LevelControlState.{LevelControlState}
 
 -- what an event gives: its number, the state after it, its actions in order
@@ -18,19 +19,36 @@ pub record Outcome : Type 0 where
 abbrev pub done : LevelControlState → List Action → Outcome
 done s l = record { number = 0; state = s; actions = l }
 
--- "a refused event changes nothing"
+-- a refused event changes nothing
 abbrev pub refused : LevelControlState → ℕ → Outcome
 refused s n = record { number = n; state = s; actions = [] }
 
--- an outcome as the code hands it on: its actions by their places
-unfoldable pub outcome_of : Effect → Outcome
-outcome_of e = record { number = e.number; state = e.state; actions = actions_of e.actions }
+-- what is handled in place: the state and the actions that it leaves
+abbrev pub handled : {A : Type 0} → Result A Refusal → LevelControlState → List Action → Outcome
+handled (Ok nothing) s l = done s l
+handled (Err cause) s l = record { number = refusal_number cause; state = s; actions = l }
 
--- "the action list: an array with its count". A free slot holds X with value 0. The array has the first seven: no event has more (`at_most_seven`)
-unfoldable pub packed : Outcome → Answer
-packed o = record {
-  number = o.number;
-  state = o.state;
-  actions = take 7 (o.actions ++ replicate 7 (action X 0));
-  count = min 7 (length o.actions);
+-- the same after actions that stand before
+abbrev pub after : List Action → Outcome → Outcome
+after l o = record { number = o.number; state = o.state; actions = l ++ o.actions }
+
+-- every cause that an event can be refused for
+abbrev pub refusals : List Refusal
+refusals =
+    TimeRefused ∷ AnswerOpen ∷ NoAnswerOpen ∷ WakeRefused ∷ StartUpLate ∷ InvalidCommand ∷ InvalidInState ∷ ProductTooLarge ∷ LevelOutside ∷ RateZero ∷ []
+
+-- the one that has a number; of 0, an accepted event's, there is none
+abbrev pub refusal_of : ℕ → Option Refusal
+refusal_of n = find (λ cause. eqb (refusal_number cause) n) refusals
+
+-- actions in an array, beside the number filled. A free slot holds X with value 0. The array has the first seven: no event has more (`at_most_seven`)
+unfoldable pub answer_of : Option Refusal → LevelControlState → List Action → Answer
+answer_of refusal s l = record {
+  refusal = refusal;
+  state = s;
+  actions = take 7 (l ++ replicate 7 (action X 0));
+  count = min 7 (length l);
 }
+
+unfoldable pub packed : Outcome → Answer
+packed o = answer_of (refusal_of o.number) o.state o.actions

@@ -8,7 +8,8 @@ pub mod Reactions
 pub mod Rest
 pub mod Causes
 pub mod Events
+pub mod Course
 pub mod Path
 pub mod Starts
 pub mod Run
-pub mod Demand3
+pub mod EveryFade

@@ -1,4 +1,4 @@
--- Demand 3: "the n that lead one by one from c to t". Nothing of the machine is used here.
+-- Every fade: the levels that lead one by one from c to t. Nothing of the machine is used here.
 use Rattle.std.specs.Prelude.{ℕ, zero, suc, ◌+◌, ◌-◌, cond, List, [], ◌∷◌, ltb}
 
 -- the k levels above c, and below it

@@ -1,5 +1,5 @@
--- Parts 2 to 5 of document 01 on the state.
-use Rattle.std.specs.Prelude.{ℕ, Bool, true, false, cond, not}
+-- Remaining time, Options, Level reports and Coupling, on the state.
+use Rattle.std.specs.Prelude.{ℕ, Bool, true, false, cond, not, Option, None}
 use Rattle.units.specs.Units.{tenths_up}
 use Rattle.units.specs.declared.Millis.{Millis}
 use Rattle.units.specs.declared.Micros.{Micros}
@@ -8,16 +8,30 @@ use Rattle.transitions.specs.RemainingTime.{remaining_time_due}
 use Rattle.transitions.specs.Options.{should_continue}
 use Rattle.transitions.specs.CurrentLevel.{second, current_level_due}
 use Rattle.transitions.specs.Coupling.{coupled_on_off}
-use Rattle.transitions.specs.declared.coupling.Coupling.{Coupling}
-use Rattle.transitions.specs.declared.coupling.Coupling.TheVariants.{NotSent}
-use Rattle.transitions.specs.declared.types.Level.{Level}
+use Rattle.transitions.specs.Types.{Level}
 use Rattle.transitions.specs.declared.types.OptionsBitmap.{OptionsBitmap}
+use Rattle.transitions.specs.Actions.{Reports, reports_of}
+use Rattle.level_control.specs.Answer.{Outcome, done}
 use Rattle.level_control.specs.State.{with_remaining_time, with_answered}
-use Rattle.level_control.specs.declared.reports.Reported.{Reported}
-use Rattle.level_control.specs.declared.reports.Told.{Told}
 use Rattle.level_control.specs.declared.state.LevelControlState.{LevelControlState}
 
--- part 2: the time is written in tenths rounded up
+-- a state, and whether the attribute that was written in it is to be reported
+pub record Reported : Type 0 where
+  pub state : LevelControlState
+  pub due : Bool
+
+abbrev pub reported : LevelControlState → Bool → Reported
+reported s due = record { state = s; due = due }
+
+-- a state, and what is to be told of it
+pub record Told : Type 0 where
+  pub state : LevelControlState
+  pub reports : Reports
+
+abbrev pub outcome_told : Told → Outcome
+outcome_told t = done t.state (reports_of t.reports)
+
+-- the time is written in tenths rounded up
 unfoldable pub write_remaining_time : LevelControlState → Millis → Bool → Reported
 write_remaining_time s remaining start = record {
   state = with_remaining_time s (tenths_up remaining);
@@ -28,11 +42,11 @@ write_remaining_time s remaining start = record {
 unfoldable pub level_due : LevelControlState → Level → Micros → Bool → Bool
 level_due s level now end = current_level_due second s.last_current_level_notification now end s.current_level level
 
--- "then the last-report time becomes now"
+-- then the last-report time becomes now
 abbrev pub noticed_at : Bool → Micros → Micros → Micros
 noticed_at due now last = cond due now last
 
--- part 4: "stores the device's answer"
+-- the device's answer is stored
 unfoldable pub set_level : LevelControlState → Level → Micros → Bool → Reported
 set_level s level now end = record {
   state = with_answered s level (noticed_at (level_due s level now end) now s.last_current_level_notification);
@@ -46,16 +60,16 @@ told_level s level now end = record {
   reports = record {
     stored = not (same_level s.current_level level);
     scene = true;
-    coupling = NotSent;
+    coupling = None;
     level = (set_level s level now end).due;
     time = false;
   };
 }
 
--- part 5, with the settings of the state
-unfoldable pub coupled_by : LevelControlState → ℕ → Bool → Bool → Coupling
-coupled_by s level with_on_off on = coupled_on_off with_on_off s.settings.coupled on s.settings.min_level level
+-- coupling, with the settings of the state
+unfoldable pub coupled_by : LevelControlState → ℕ → Bool → Bool → Option Bool
+coupled_by s level with_on_off on = coupled_on_off with_on_off s.settings.coupled on s.settings.range.min level
 
--- part 3, with the settings and the options of the state
+-- options, with the settings and the options of the state
 unfoldable pub continues : LevelControlState → Bool → Bool → OptionsBitmap → OptionsBitmap → Bool
 continues s with_on_off on mask override = should_continue with_on_off s.settings.coupled on s.attributes.options mask override

@@ -1,16 +1,13 @@
--- Demand 3: what is seen of a play: the accepted events and their actions.
+-- Every fade: what is seen of a play, read off the accepted events and their actions.
 use Rattle.std.specs.Prelude.{ℕ, ◌+◌, Bool, true, false, not, ◌&&◌, ◌||◌, List, [], ◌∷◌, ◌++◌, eqb}
-use Rattle.transitions.specs.declared.events.Action.{Action}
-use Rattle.transitions.specs.declared.events.ActionKind.{ActionKind}
-use Rattle.transitions.specs.declared.events.ActionKind.TheVariants.{D, P, S, C, L, R, W, E, K, X}
+use Rattle.transitions.specs.declared.actions.Action.{Action}
+use Rattle.transitions.specs.declared.actions.ActionKind.{ActionKind}
+use Rattle.transitions.specs.declared.actions.ActionKind.TheVariants.{D, P, S, C, L, R, W, E, K, X}
 use Rattle.transitions.specs.declared.events.DeviceAnswer.{DeviceAnswer}
 use Rattle.transitions.specs.declared.events.DeviceAnswer.TheVariants as device
 use Rattle.transitions.specs.declared.events.Event.{Event}
 use Rattle.transitions.specs.declared.events.EventKind.{EventKind}
 use Rattle.transitions.specs.declared.events.EventKind.TheVariants as kind
-use Rattle.transitions.specs.declared.events.Turn.{Turn}
-use Rattle.transitions.specs.declared.events.Turn.TheVariants as turn
-use Rattle.transitions.specs.Events.{turn_of}
 use Rattle.level_control.specs.Answer.{Outcome}
 use Rattle.level_control.specs.Events.{event_of}
 use Rattle.level_control.specs.declared.state.LevelControlState.{LevelControlState}
@@ -33,7 +30,7 @@ abbrev pub asks : List Action → List ℕ
 asks [] = []
 asks (a ∷ l) = asked_by a.kind a.value ++ asks l
 
--- "a wait lasts from W to the accepted wake, an open request from D to the accepted answer; at rest there is neither"
+-- an open request lasts from D to the accepted answer, a wait from W to the accepted wake; at rest there is neither
 pub data Pending : Type 0 where
   Nothing : Pending
   Request : Pending
@@ -55,30 +52,30 @@ abbrev pub opened : List Action → Pending → Pending
 opened [] p = p
 opened (a ∷ l) p = opened l (opened_by a.kind p)
 
-abbrev pub closed_by : Turn → Pending → Pending
-closed_by turn.StartUp p = p
-closed_by turn.Answer Nothing = Nothing
-closed_by turn.Answer Request = Nothing
-closed_by turn.Answer Wait = Wait
-closed_by turn.Wake Nothing = Nothing
-closed_by turn.Wake Request = Request
-closed_by turn.Wake Wait = Nothing
-closed_by turn.Other p = p
+abbrev pub closed_by : EventKind → Pending → Pending
+closed_by kind.StartUp p = p
+closed_by (kind.Answer a) Nothing = Nothing
+closed_by (kind.Answer a) Request = Nothing
+closed_by (kind.Answer a) Wait = Wait
+closed_by kind.Wake Nothing = Nothing
+closed_by kind.Wake Request = Request
+closed_by kind.Wake Wait = Nothing
+closed_by (kind.Command c) p = p
 
 abbrev pub waits : Pending → Bool
 waits Nothing = false
 waits Request = false
 waits Wait = true
 
--- "an event is accepted exactly when no cause refuses it"
+-- an event is accepted exactly when no cause refuses it
 abbrev pub accepted : LevelControlState → Event → Bool
 accepted s e = eqb (event_of s e).number 0
 
-abbrev pub count_answer : Turn → ℕ
-count_answer turn.StartUp = 0
-count_answer turn.Answer = 1
-count_answer turn.Wake = 0
-count_answer turn.Other = 0
+abbrev pub count_answer : EventKind → ℕ
+count_answer kind.StartUp = 0
+count_answer (kind.Answer a) = 1
+count_answer kind.Wake = 0
+count_answer (kind.Command c) = 0
 
 -- a run from the start of a fade: the state, the levels asked for, the answers accepted since, and what is open
 pub record Run : Type 0 where
@@ -91,8 +88,8 @@ pub record Run : Type 0 where
 abbrev pub started : Outcome → Run
 started o = record { state = o.state; asked = asks o.actions; answers = 0; pending = opened o.actions Nothing }
 
--- "each event gets the state that the last one left"
-abbrev pub next_by : Bool → Outcome → Turn → Run → Run
+-- each event gets the state that the last one left
+abbrev pub next_by : Bool → Outcome → EventKind → Run → Run
 next_by true o t r = record {
   state = o.state;
   asked = r.asked ++ asks o.actions;
@@ -107,7 +104,7 @@ next_by false o t r = record {
 }
 
 unfoldable pub next : Run → Event → Run
-next r e = next_by (accepted r.state e) (event_of r.state e) (turn_of e.kind) r
+next r e = next_by (accepted r.state e) (event_of r.state e) e.kind r
 
 abbrev pub play : Run → List Event → Run
 play r [] = r
@@ -122,22 +119,11 @@ with_level device.Failed = false
 
 abbrev pub is_onward : EventKind → Bool
 is_onward kind.StartUp = false
-is_onward (kind.MoveToLevel r) = false
-is_onward (kind.Move r) = false
-is_onward (kind.Step r) = false
-is_onward (kind.Stop r) = false
 is_onward (kind.Answer a) = with_level a
 is_onward kind.Wake = true
-is_onward (kind.OnOffChanged value) = false
-is_onward (kind.Scene r) = false
-is_onward (kind.DeviceUpdate level) = false
-is_onward kind.DeviceStop = false
-is_onward (kind.SetOnLevel level) = false
-is_onward (kind.SetDefaultMoveRate rate) = false
-is_onward (kind.SetStartUpCurrentLevel level) = false
-is_onward kind.FactoryReset = false
+is_onward (kind.Command c) = false
 
--- "every list of events, refused ones included, of which only answers with a level and wakes are accepted"
+-- of the events, refused ones included, only answers with a level and wakes are accepted
 abbrev pub only_onward : Run → List Event → Bool
 only_onward r [] = true
 only_onward r (e ∷ es) = (not (accepted r.state e) || is_onward e.kind) && only_onward (next r e) es

@@ -1,216 +1,208 @@
-// "Causes and numbers": what the tests of the table say of an event in a state.
-// Derived from level_control.rs of project-chip/rs-matter 43f61585a4 (see NOTICE), and changed.
-ghost use Rattle.std.specs.Prelude.{◌≡◌};
-ghost use Rattle.level_control.specs.Causes.{command_tests_of, level_tests, move_tests, move_to_level_tests, rate_tests, scene_tests, step_overflows, step_tests, stop_tests, time_refused, turn_tests};
+//! Judging an event: the first cause that refuses it, or what it is to do.
+//! Derived from level_control.rs of project-chip/rs-matter 43f61585a4 (see NOTICE), and changed.
+ghost use Rattle.std.specs.Prelude.{◌≡◌, IfErr, IfOk, OnOk};
+ghost use Rattle.transitions.specs.Causes.{refusal_number};
+ghost use Rattle.level_control.specs.Causes.{command_tests_by, level_judged, move_tests, move_to_level_tests, scene_tests, step_tests, tests_number};
+ghost use Rattle.level_control.specs.Course.{follow, unless_stopped};
+ghost use Rattle.level_control.specs.Events.{event_of, number_of, run_command};
+ghost use Rattle.level_control.specs.Moves.{begin_move};
+ghost use Rattle.level_control.specs.State.{accept};
+ghost use Rattle.level_control.specs.Targets.{moved_to_level, recalled, stepped};
 
 use crate::state::LevelControlState;
-use transitions::causes::{CommandTests, TurnTests};
-use transitions::commands::consults_options;
+use transitions::causes::Refusal;
+use transitions::commands::{consults_options, rate_in_force, step_level, step_time};
 use transitions::events::{
-    EventKind, MoveRequest, MoveToLevelRequest, SceneRequest, StepRequest, StopRequest, Turn,
+    Command, DeviceAnswer, Event, EventKind, MoveRequest, MoveToLevelRequest, SceneRequest,
+    StepRequest,
 };
-use transitions::types::{Level, OptionsBitmap, Rate};
-use units::Micros;
+use transitions::moves::move_period;
+use transitions::options::CommandOptions;
+use transitions::settings::Attributes;
+use transitions::tasks::{FadeRequest, MoveCourse, Request, Wait, at_limit};
+use transitions::types::{Level, Moment, OptionsBitmap};
+use units::{Micros, Tenths};
 
-impl LevelControlState {
-    // Below the last accepted time, or above 2^62 − 1.
-    #[tactic(auto, unfolding(crate::specs::Causes::time_refused))]
-    pub fn time_refused(self, at: Micros) -> bool
-        ensures { result ≡ time_refused self at }
-    {
-        at.is_before(self.last_accepted) | Micros(4_611_686_018_427_387_903).is_before(at)
-    }
+/// The last clock time that is accepted.
+const LATEST: Micros = Micros((1 << 62) - 1);
 
-    // Causes 5 to 9.
-    #[tactic(auto, unfolding(crate::specs::Causes::turn_tests))]
-    pub fn turn_tests(self, at: Micros, turn: Turn) -> TurnTests
-        ensures { result ≡ turn_tests self at turn }
-    {
-        let task = self.task;
-        let time_refused = self.time_refused(at);
-        let is_open = task.is_open();
-        match turn {
-            Turn::StartUp => TurnTests {
-                time_refused: time_refused,
-                answer_open: is_open,
-                no_answer_open: false,
-                wake_refused: false,
-                start_up_late: self.started,
-            },
-            Turn::Answer => TurnTests {
-                time_refused: time_refused,
-                answer_open: false,
-                no_answer_open: !is_open,
-                wake_refused: false,
-                start_up_late: false,
-            },
-            Turn::Wake => TurnTests {
-                time_refused: time_refused,
-                answer_open: is_open,
-                no_answer_open: false,
-                wake_refused: !task.is_due(at),
-                start_up_late: false,
-            },
-            Turn::Other => TurnTests {
-                time_refused: time_refused,
-                answer_open: is_open,
-                no_answer_open: false,
-                wake_refused: false,
-                start_up_late: false,
-            },
-        }
-    }
+/// The options of a scene: a command without on/off that puts nothing over the stored ones.
+const SCENE: CommandOptions = CommandOptions {
+    with_on_off: false,
+    options_mask: OptionsBitmap(0),
+    options_override: OptionsBitmap(0),
+};
 
-    // A target of 255 is not stopped: its options are not looked at.
-    #[tactic(auto, unfolding(crate::specs::Causes::move_to_level_tests))]
-    pub fn move_to_level_tests(self, on_off: bool, request: MoveToLevelRequest) -> CommandTests
-        ensures { result ≡ move_to_level_tests self on_off request }
-    {
-        let continues = self.should_continue(
-            request.with_on_off,
-            on_off,
-            request.options_mask,
-            request.options_override,
-        );
-        CommandTests {
-            stopped_by_options: consults_options(request.level) & !continues,
-            ..CommandTests::none()
-        }
-    }
-
-    #[tactic(auto, unfolding(crate::specs::Causes::move_tests))]
-    pub fn move_tests(self, on_off: bool, request: MoveRequest) -> CommandTests
-        ensures { result ≡ move_tests self on_off request }
-    {
-        let continues = self.should_continue(
-            request.with_on_off,
-            on_off,
-            request.options_mask,
-            request.options_override,
-        );
-        let rate = self.rate_by(request);
-        CommandTests {
-            invalid_command: rate.is_invalid(),
-            stopped_by_options: !continues,
-            ..CommandTests::none()
-        }
-    }
-
-    // From a missing level there is no product.
-    #[tactic(auto, unfolding(crate::specs::Causes::step_overflows))]
-    pub fn step_overflows(self, request: StepRequest) -> bool
-        ensures { result ≡ step_overflows self request }
-    {
-        let current = self.current_level;
-        match current {
-            Level::Known(level) => {
-                let takes = self.stepped_time(level, request);
-                takes.is_overflow()
-            }
-            Level::Missing => false,
-        }
-    }
-
-    #[tactic(auto, unfolding(crate::specs::Causes::step_tests))]
-    pub fn step_tests(self, on_off: bool, request: StepRequest) -> CommandTests
-        ensures { result ≡ step_tests self on_off request }
-    {
-        let continues = self.should_continue(
-            request.with_on_off,
-            on_off,
-            request.options_mask,
-            request.options_override,
-        );
-        let level = self.current_level;
-        CommandTests {
-            invalid_command: request.step_size == 0,
-            stopped_by_options: !continues,
-            invalid_in_state: level.is_missing(),
-            product_too_large: self.step_overflows(request),
-            ..CommandTests::none()
-        }
-    }
-
-    #[tactic(auto, unfolding(crate::specs::Causes::stop_tests))]
-    pub fn stop_tests(self, on_off: bool, request: StopRequest) -> CommandTests
-        ensures { result ≡ stop_tests self on_off request }
-    {
-        let continues = self.should_continue(
-            request.with_on_off,
-            on_off,
-            request.options_mask,
-            request.options_override,
-        );
-        CommandTests {
-            stopped_by_options: !continues,
-            ..CommandTests::none()
-        }
-    }
-
-    // A scene is a command without on/off and without a mask; one without a value is not stopped, and does nothing.
-    #[tactic(auto, unfolding(crate::specs::Causes::scene_tests))]
-    pub fn scene_tests(self, on_off: bool, request: SceneRequest) -> CommandTests
-        ensures { result ≡ scene_tests self on_off request }
-    {
-        let decided = request.level;
-        match decided {
-            Level::Known(level) => {
-                let continues = self.should_continue(
-                    false,
-                    on_off,
-                    OptionsBitmap(0),
-                    OptionsBitmap(0),
-                );
-                CommandTests {
-                    stopped_by_options: consults_options(level) & !continues,
-                    ..CommandTests::none()
-                }
-            }
-            Level::Missing => CommandTests::none(),
-        }
-    }
-
-    #[tactic(auto, unfolding(crate::specs::Causes::level_tests))]
-    pub fn level_tests(self, level: Level) -> CommandTests
-        ensures { result ≡ level_tests self level }
-    {
-        CommandTests {
-            level_outside: level.is_outside(self.settings.min_level, self.settings.max_level),
-            ..CommandTests::none()
-        }
-    }
-
-    // Causes 10 to 14 and the options.
-    #[tactic(auto, unfolding(crate::specs::Causes::command_tests_of))]
-    pub fn command_tests(self, on_off: bool, kind: EventKind) -> CommandTests
-        ensures { result ≡ command_tests_of self on_off kind }
-    {
-        match kind {
-            EventKind::StartUp => CommandTests::none(),
-            EventKind::MoveToLevel(request) => self.move_to_level_tests(on_off, request),
-            EventKind::Move(request) => self.move_tests(on_off, request),
-            EventKind::Step(request) => self.step_tests(on_off, request),
-            EventKind::Stop(request) => self.stop_tests(on_off, request),
-            EventKind::Answer(_) => CommandTests::none(),
-            EventKind::Wake => CommandTests::none(),
-            EventKind::OnOffChanged(_) => CommandTests::none(),
-            EventKind::Scene(request) => self.scene_tests(on_off, request),
-            EventKind::DeviceUpdate(_) => CommandTests::none(),
-            EventKind::DeviceStop => CommandTests::none(),
-            EventKind::SetOnLevel(level) => self.level_tests(level),
-            EventKind::SetDefaultMoveRate(rate) => rate_tests(rate),
-            EventKind::SetStartUpCurrentLevel(level) => self.level_tests(level),
-            EventKind::FactoryReset => CommandTests::none(),
-        }
-    }
+/// What an accepted event is to do, with what was found to judge it.
+#[derive(Clone, Copy, Debug, PartialEq, Eq)]
+pub(crate) enum Course {
+    /// The options stop it, a move stands at its limit, or a scene has no value.
+    Nothing,
+    StartUp,
+    Answered(Request, DeviceAnswer),
+    Woken(Wait),
+    GoTo(FadeRequest),
+    Move(MoveCourse),
+    Stop,
+    TurnOn,
+    Update(u8),
+    Set(Attributes),
+    Reset,
 }
 
-#[tactic(auto, unfolding(crate::specs::Causes::rate_tests))]
-pub fn rate_tests(rate: Rate) -> CommandTests
-    ensures { result ≡ rate_tests rate }
-{
-    CommandTests {
-        rate_0: rate.is_zero(),
-        ..CommandTests::none()
+impl LevelControlState {
+    #[tactic(auto, unfolding(crate::specs::Events::event_of, crate::specs::Events::number_of, crate::specs::Events::run, crate::specs::Events::answered, crate::specs::Events::woken, crate::specs::Causes::turn_tests, crate::specs::Causes::time_refused, crate::specs::Causes::command_tests_of, crate::specs::State::accept, transitions::specs::Causes::first_cause))]
+    pub(crate) fn judge(&self, event: Event) -> Result<Course, Refusal>
+        ensures refused { IfErr result (λ cause. refusal_number cause ≡ number_of self.now event) }
+        ensures accepted { OnOk result (number_of self.now event ≡ 0) }
+        ensures course { IfOk result (λ course. follow (accept self.now event.moment.at) course event.moment.at event.moment.on_off ≡ event_of self.now event) }
+    {
+        let at = event.moment.at;
+        if at < self.last_accepted || LATEST < at {
+            return Err(Refusal::TimeRefused);
+        }
+        let request = self.task.open_request();
+        match event.kind {
+            EventKind::Answer(answer) => {
+                let request = request.ok_or(Refusal::NoAnswerOpen)?;
+                Ok(Course::Answered(request, answer))
+            }
+            _ if request.is_some() => Err(Refusal::AnswerOpen),
+            EventKind::StartUp if self.started => Err(Refusal::StartUpLate),
+            EventKind::StartUp => Ok(Course::StartUp),
+            EventKind::Wake => {
+                let wait = self.task.due_wait(at).ok_or(Refusal::WakeRefused)?;
+                Ok(Course::Woken(wait))
+            }
+            EventKind::Command(command) => self.judge_command(command, event.moment),
+        }
+    }
+
+    #[tactic(auto, unfolding(crate::specs::Causes::move_to_level_tests, crate::specs::Causes::scene_tests, crate::specs::Causes::stop_tests, crate::specs::Causes::level_tests, crate::specs::Causes::rate_tests, crate::specs::Reactions::switched, crate::specs::Reactions::turned_off, crate::specs::Reactions::off_time, crate::specs::Rest::on_level_set, crate::specs::Rest::default_move_rate_set, crate::specs::Rest::start_up_current_level_set, crate::specs::State::with_attributes, crate::specs::State::accept, transitions::specs::Causes::first_cause))]
+    fn judge_command(&self, command: Command, moment: Moment) -> Result<Course, Refusal>
+        ensures refused { IfErr result (λ cause. refusal_number cause ≡ tests_number (command_tests_by self.now moment.on_off command)) }
+        ensures accepted { OnOk result (tests_number (command_tests_by self.now moment.on_off command) ≡ 0) }
+        ensures course { IfOk result (λ course. follow (accept self.now moment.at) course moment.at moment.on_off ≡ unless_stopped (command_tests_by self.now moment.on_off command) (accept self.now moment.at) (run_command (accept self.now moment.at) command moment.at moment.on_off)) }
+    {
+        match command {
+            Command::MoveToLevel(request) => Ok(self.judge_move_to_level(request, moment)),
+            Command::Move(request) => self.judge_move(request, moment),
+            Command::Step(request) => self.judge_step(request, moment),
+            Command::Stop(options) => Ok(if self.should_continue(options, moment.on_off) {
+                Course::Stop
+            } else {
+                Course::Nothing
+            }),
+            Command::OnOffChanged(true) => Ok(Course::TurnOn),
+            Command::OnOffChanged(false) => Ok(Course::GoTo(self.off_request())),
+            Command::Scene(request) => Ok(self.judge_scene(request, moment)),
+            Command::DeviceUpdate(level) => Ok(Course::Update(level)),
+            Command::DeviceStop => Ok(Course::Stop),
+            Command::SetOnLevel(level) => {
+                let on_level = self.judge_level(level)?;
+                Ok(Course::Set(Attributes {
+                    on_level,
+                    ..self.attributes
+                }))
+            }
+            Command::SetDefaultMoveRate(Some(0)) => Err(Refusal::RateZero),
+            Command::SetDefaultMoveRate(default_move_rate) => Ok(Course::Set(Attributes {
+                default_move_rate,
+                ..self.attributes
+            })),
+            Command::SetStartUpCurrentLevel(level) => {
+                let start_up_current_level = self.judge_level(level)?;
+                Ok(Course::Set(Attributes {
+                    start_up_current_level,
+                    ..self.attributes
+                }))
+            }
+            Command::FactoryReset => Ok(Course::Reset),
+        }
+    }
+
+    /// Of a target of 255 the options are not looked at.
+    #[tactic(auto, unfolding(crate::specs::Causes::move_to_level_tests, crate::specs::Targets::moved_to_level, crate::specs::State::accept, transitions::specs::Types::time_or))]
+    fn judge_move_to_level(&self, request: MoveToLevelRequest, moment: Moment) -> Course
+        ensures { follow (accept self.now moment.at) result moment.at moment.on_off ≡ unless_stopped (move_to_level_tests self.now moment.on_off request) (accept self.now moment.at) (moved_to_level (accept self.now moment.at) request moment.at moment.on_off) }
+    {
+        if consults_options(request.level)
+            && !self.should_continue(request.options, moment.on_off)
+        {
+            return Course::Nothing;
+        }
+        let time = request.transition_time.unwrap_or(Tenths(0));
+        Course::GoTo(self.request_to(request.level, time, request.options.with_on_off))
+    }
+
+    /// A scene without a value is not stopped, and does nothing.
+    #[tactic(auto, unfolding(crate::specs::Causes::scene_tests, crate::specs::Targets::recalled, crate::specs::State::accept))]
+    fn judge_scene(&self, request: SceneRequest, moment: Moment) -> Course
+        ensures { follow (accept self.now moment.at) result moment.at moment.on_off ≡ unless_stopped (scene_tests self.now moment.on_off request) (accept self.now moment.at) (recalled (accept self.now moment.at) request moment.at moment.on_off) }
+    {
+        let Some(level) = request.level else {
+            return Course::Nothing;
+        };
+        if consults_options(level) && !self.should_continue(SCENE, moment.on_off) {
+            return Course::Nothing;
+        }
+        let time = request.transition_time.to_tenths_floor_saturating();
+        Course::GoTo(FadeRequest {
+            scene_apply: true,
+            ..self.request_to(level, time, false)
+        })
+    }
+
+    /// At its limit nothing happens, and a running task goes on.
+    #[tactic(auto, unfolding(crate::specs::Causes::move_tests, crate::specs::Moves::rate_by, crate::specs::Moves::begin_move, crate::specs::State::accept, transitions::specs::Causes::first_cause))]
+    fn judge_move(&self, request: MoveRequest, moment: Moment) -> Result<Course, Refusal>
+        ensures refused { IfErr result (λ cause. refusal_number cause ≡ tests_number (move_tests self.now moment.on_off request)) }
+        ensures accepted { OnOk result (tests_number (move_tests self.now moment.on_off request) ≡ 0) }
+        ensures course { IfOk result (λ course. follow (accept self.now moment.at) course moment.at moment.on_off ≡ unless_stopped (move_tests self.now moment.on_off request) (accept self.now moment.at) (begin_move (accept self.now moment.at) request moment.at moment.on_off)) }
+    {
+        let rate = rate_in_force(
+            request.rate,
+            self.attributes.default_move_rate,
+            self.settings.fastest_rate,
+        )?;
+        let goes_on = self.should_continue(request.options, moment.on_off);
+        if !goes_on || at_limit(self.current_level, request.mode, self.settings.range) {
+            return Ok(Course::Nothing);
+        }
+        Ok(Course::Move(MoveCourse {
+            mode: request.mode,
+            period: move_period(rate),
+            with_on_off: request.options.with_on_off,
+        }))
+    }
+
+    /// Its level is a target like any other; its time goes by the size that came out.
+    #[tactic(auto, unfolding(crate::specs::Causes::step_tests, crate::specs::Causes::step_overflows, crate::specs::Targets::stepped, crate::specs::Targets::stepped_level, crate::specs::Targets::stepped_time, crate::specs::State::accept, transitions::specs::Causes::first_cause))]
+    fn judge_step(&self, request: StepRequest, moment: Moment) -> Result<Course, Refusal>
+        ensures refused { IfErr result (λ cause. refusal_number cause ≡ tests_number (step_tests self.now moment.on_off request)) }
+        ensures accepted { OnOk result (tests_number (step_tests self.now moment.on_off request) ≡ 0) }
+        ensures course { IfOk result (λ course. follow (accept self.now moment.at) course moment.at moment.on_off ≡ unless_stopped (step_tests self.now moment.on_off request) (accept self.now moment.at) (stepped (accept self.now moment.at) request moment.at moment.on_off)) }
+    {
+        let size = request.step_size;
+        if size == 0 {
+            return Err(Refusal::InvalidCommand);
+        }
+        if !self.should_continue(request.options, moment.on_off) {
+            return Ok(Course::Nothing);
+        }
+        let level = self.current_level.ok_or(Refusal::InvalidInState)?;
+        let target = step_level(request.mode, level, size, self.settings.range);
+        let time = step_time(request.transition_time, target.abs_diff(level), size)?;
+        Ok(Course::GoTo(self.request_to(target, time, request.options.with_on_off)))
+    }
+
+    /// A known level that is to be set lies within MIN..MAX.
+    fn judge_level(&self, level: Level) -> Result<Level, Refusal>
+        ensures { result ≡ level_judged self.now level }
+    {
+        match level {
+            Some(known) if !self.settings.range.contains(known) => Err(Refusal::LevelOutside),
+            _ => Ok(level),
+        }
     }
 }

@@ -1,187 +1,161 @@
-// Part 7 after its start: the device's answers in a fade, and the wake at the end of a wait (the source's move_to_level_transition).
-// Derived from level_control.rs of project-chip/rs-matter 43f61585a4 (see NOTICE), and changed.
-ghost use Rattle.std.specs.Prelude.{◌≡◌};
-ghost use Rattle.level_control.specs.Answer.{outcome_of};
-ghost use Rattle.level_control.specs.Fades.{device_failed, fade_answered, fade_coupling, fade_ended, fade_goes_on, fade_missing, fade_told, fade_woken, move_to_level_transition, restored};
+//! A fade after its start: the device's answers, and the wake at the end of a wait (the source's move_to_level_transition).
+//! Derived from level_control.rs of project-chip/rs-matter 43f61585a4 (see NOTICE), and changed.
+ghost use Rattle.std.specs.Prelude.{◌≡◌, [], ◌≤◌, length};
+ghost use Rattle.level_control.specs.Answer.{after, done};
+ghost use Rattle.level_control.specs.Fades.{asked, device_failed, fade_answered, fade_coupling, fade_ended, fade_goes_on, fade_missing, fade_told, fade_woken, move_to_level_transition};
+ghost use Rattle.level_control.specs.Reports.{outcome_told};
+ghost use Rattle.level_control.specs.Targets.{quiet};
 
-use crate::answer::Effect;
-use crate::reports::Told;
 use crate::state::LevelControlState;
-use transitions::action_list::{Last, Reports, Then, then_stored};
-use transitions::coupling::Coupling;
+use transitions::actions::{ActionKind, Actions};
 use transitions::events::DeviceAnswer;
-use transitions::fade::Next;
-use transitions::tasks::{AfterFade, Fade, Task, level_to_restore};
-use transitions::types::Level;
+use transitions::tasks::{Fade, Task, level_to_restore};
+use transitions::types::Moment;
 use units::Micros;
 
+/// The number of E where the device failed or has no level, and where on has nothing to return to.
+pub(crate) const DEVICE_FAILED: u64 = 15;
+
 impl LevelControlState {
-    // Coupling at the start and the end of a fade.
+    /// Coupling at the start and the end of a fade.
     #[tactic(auto, unfolding(crate::specs::Fades::fade_coupling))]
-    pub fn fade_coupling(self, fade: Fade, on_off: bool, level: u8) -> Coupling
-        ensures { result ≡ fade_coupling self fade on_off level }
+    fn fade_coupling(&self, fade: Fade, on_off: bool, level: u8) -> Option<bool>
+        ensures { result ≡ fade_coupling self.now fade on_off level }
     {
-        if fade.is_start() | fade.is_last() {
-            return self.update_coupled_on_off(level, fade.with_on_off, on_off);
-        }
-        Coupling::NotSent
-    }
-
-    // The answered level stored and the remaining time written: P, S, C, L and R.
-    #[tactic(auto, unfolding(crate::specs::Fades::fade_told, crate::specs::Fades::fade_stored))]
-    pub fn fade_told(self, fade: Fade, at: Micros, on_off: bool, level: u8) -> Told
-        ensures { result ≡ fade_told self fade at on_off level }
-    {
-        let old = self.current_level;
-        let coupling = self.fade_coupling(fade, on_off, level);
-        let stored = self.set_level(Level::Known(level), at, fade.is_last());
-        let state = stored.state;
-        let written = state.write_remaining_time_quietly(fade.left(), fade.is_start());
-        let next = written.state;
-        let reports = Reports {
-            stored: !old.is(level),
-            scene: !fade.scene_apply,
-            coupling: coupling,
-            level: stored.due,
-            time: written.due,
-        };
-        Told {
-            state: next,
-            reports: reports,
+        if fade.is_start() || fade.is_last() {
+            self.update_coupled_on_off(level, fade.with_on_off, on_off)
+        } else {
+            None
         }
     }
 
-    // The device answered a level.
-    #[tactic(auto, unfolding(crate::specs::Answer::outcome_of, crate::specs::Fades::move_to_level_transition))]
-    pub fn move_to_level_transition(
-        self,
+    /// The answered level stored and the remaining time written: P, S, C, L and R.
+    #[tactic(auto, using(crate::proofs::ActionLaws::five_pushed, crate::proofs::ActionLaws::reports_few), unfolding(crate::specs::Fades::fade_told, crate::specs::Fades::fade_stored, transitions::specs::Types::same_level))]
+    fn fade_told(&mut self, fade: Fade, moment: Moment, level: u8, actions: &mut Actions)
+        requires { actions.old ≡ [] }
+        ensures told { done self.new actions.new ≡ outcome_told (fade_told self.old fade moment.at moment.on_off level) }
+        ensures few { length actions.new ≤ 5 }
+    {
+        let coupling = self.fade_coupling(fade, moment.on_off, level);
+        let stored = self.set_level(Some(level), moment.at, fade.is_last());
+        let time_due = self.write_remaining_time_quietly(fade.left(), fade.is_start());
+        actions.push_if(stored.changed, ActionKind::P);
+        actions.push_if(!fade.scene_apply, ActionKind::S);
+        actions.push_coupling(coupling);
+        actions.push_if(stored.due, ActionKind::L);
+        actions.push_if(time_due, ActionKind::R);
+    }
+
+    /// The device answered a level.
+    #[tactic(auto, using(crate::proofs::ActionLaws::fade_ended_after, crate::proofs::ActionLaws::fade_goes_on_after), unfolding(crate::specs::Fades::move_to_level_transition))]
+    fn move_to_level_transition(
+        &mut self,
         fade: Fade,
         since: Micros,
-        at: Micros,
-        on_off: bool,
+        moment: Moment,
         level: u8,
-    ) -> Effect
-        ensures { outcome_of result ≡ move_to_level_transition self fade since at on_off level }
+        actions: &mut Actions,
+    )
+        requires { actions.old ≡ [] }
+        ensures { done self.new actions.new ≡ move_to_level_transition self.old fade since moment.at moment.on_off level }
     {
-        let told = self.fade_told(fade, at, on_off, level);
+        self.fade_told(fade, moment, level, actions);
         if fade.is_last() {
-            let after = fade.after;
-            return told.fade_ended(after);
+            self.fade_ended(fade.after, actions)
+        } else {
+            self.fade_goes_on(fade, since, moment.at, actions)
         }
-        told.fade_goes_on(fade, since, at)
     }
 
-    // The device answered that it has no level: the fade fails, and what was to be restored is not.
-    pub fn fade_missing(self, fade: Fade, at: Micros) -> Effect
-        ensures { outcome_of result ≡ fade_missing self fade at }
+    /// The device answered that it has no level: the fade fails, and what was to be restored is not.
+    #[tactic(auto, using(crate::proofs::ActionLaws::missing_told), unfolding(crate::specs::Fades::fade_missing, crate::specs::State::with_task, transitions::specs::Types::same_level))]
+    fn fade_missing(&mut self, fade: Fade, now: Micros, actions: &mut Actions)
+        requires { actions.old ≡ [] }
+        ensures { done self.new actions.new ≡ fade_missing self.old fade now }
     {
-        let old = self.current_level;
-        let stored = self.set_level(Level::Missing, at, fade.is_last());
-        let state = stored.state;
-        let reports = Reports {
-            stored: !old.is_missing(),
-            scene: !fade.scene_apply,
-            coupling: Coupling::NotSent,
-            level: false,
-            time: false,
-        };
-        let told = Told {
-            state: state,
-            reports: reports,
-        };
-        told.ends(Last::E(15))
+        let stored = self.set_level(None, now, fade.is_last());
+        self.task = Task::Rest;
+        actions.push_if(stored.changed, ActionKind::P);
+        actions.push_if(!fade.scene_apply, ActionKind::S);
+        actions.push(ActionKind::E, DEVICE_FAILED);
     }
 
-    // A failed device changes nothing but the noted previous level.
-    #[tactic(auto, unfolding(crate::specs::Answer::outcome_of, crate::specs::Fades::device_failed))]
-    pub fn device_failed(self) -> Effect
-        ensures { outcome_of result ≡ device_failed self }
+    /// A failed device ends the task, and changes nothing else but the noted previous level.
+    #[tactic(auto, unfolding(crate::specs::Fades::device_failed, crate::specs::State::with_task, crate::specs::State::with_previous_level))]
+    pub(crate) fn device_failed(&mut self, actions: &mut Actions)
+        requires { actions.old ≡ [] }
+        ensures { done self.new actions.new ≡ device_failed self.old }
     {
-        let level = self.current_level;
-        self.with_previous_level(level)
-            .with_task(Task::Rest)
-            .doing(Last::E(15))
+        self.previous_current_level = self.current_level;
+        self.task = Task::Rest;
+        actions.push(ActionKind::E, DEVICE_FAILED);
     }
 
-    #[tactic(auto, unfolding(crate::specs::Answer::outcome_of, crate::specs::Fades::fade_answered))]
-    pub fn fade_answered(
-        self,
+    #[tactic(auto, unfolding(crate::specs::Fades::fade_answered))]
+    pub(crate) fn fade_answered(
+        &mut self,
         fade: Fade,
         since: Micros,
-        at: Micros,
-        on_off: bool,
         answer: DeviceAnswer,
-    ) -> Effect
-        ensures { outcome_of result ≡ fade_answered self fade since at on_off answer }
+        moment: Moment,
+        actions: &mut Actions,
+    )
+        requires { actions.old ≡ [] }
+        ensures { done self.new actions.new ≡ fade_answered self.old fade since moment.at moment.on_off answer }
     {
         match answer {
-            DeviceAnswer::Level(level) => {
-                self.move_to_level_transition(fade, since, at, on_off, level)
-            }
-            DeviceAnswer::Missing => self.fade_missing(fade, at),
-            DeviceAnswer::Failed => self.device_failed(),
+            DeviceAnswer::Level(level) => self.move_to_level_transition(
+                fade, since, moment, level, actions,
+            ),
+            DeviceAnswer::Missing => self.fade_missing(fade, moment.at, actions),
+            DeviceAnswer::Failed => self.device_failed(actions),
         }
     }
 
-    // The wait is over: the next request.
-    #[tactic(auto, unfolding(crate::specs::Answer::outcome_of, crate::specs::Fades::fade_woken))]
-    pub fn fade_woken(self, fade: Fade, at: Micros) -> Effect
-        ensures { outcome_of result ≡ fade_woken self fade at }
+    /// The wait is over: the next request.
+    #[tactic(auto, unfolding(crate::specs::Fades::fade_woken, crate::specs::State::with_task))]
+    pub(crate) fn fade_woken(&mut self, fade: Fade, now: Micros, actions: &mut Actions)
+        requires { actions.old ≡ [] }
+        ensures { done self.new actions.new ≡ fade_woken self.old fade now }
     {
-        let remaining = fade.remaining;
-        let asking = fade.asking(remaining, at);
-        self.with_task(Task::Fade(asking))
-            .doing(Last::D(asking.counter))
+        self.ask(fade.asking(fade.remaining, now), actions)
     }
-}
 
-impl Told {
-    // The level before is put back without the device: P if it changes, and L.
-    #[tactic(auto, unfolding(crate::specs::Answer::outcome_of, crate::specs::Fades::restored, crate::specs::State::with_task, crate::specs::State::with_level))]
-    pub fn restored(self, before: u8) -> Effect
-        ensures { outcome_of result ≡ restored self before }
+    /// A fade whose request is made now.
+    #[tactic(auto, using(crate::proofs::ActionLaws::pushed), unfolding(crate::specs::State::with_task))]
+    pub(crate) fn ask(&mut self, fade: Fade, actions: &mut Actions)
+        requires { length actions.old ≤ 5 }
+        ensures { done self.new actions.new ≡ after actions.old (asked self.old fade) }
     {
-        let state = self.state;
-        let reports = self.reports;
-        let level = state.current_level;
-        let told = Told {
-            state: state.with_level(Level::Known(before)),
-            reports: reports,
+        self.task = Task::Fade(fade);
+        actions.push(ActionKind::D, u64::from(fade.counter));
+    }
+
+    /// The end of a fade. The off reaction's puts the level before back, without the device: P if it changes, and L.
+    #[tactic(auto, using(crate::proofs::ActionLaws::if_then), unfolding(crate::specs::Fades::fade_ended, crate::specs::Fades::restored, crate::specs::State::with_task, crate::specs::State::with_level, transitions::specs::Actions::reports_of))]
+    fn fade_ended(&mut self, restores: Option<u8>, actions: &mut Actions)
+        requires { length actions.old ≤ 5 }
+        ensures { done self.new actions.new ≡ after actions.old (fade_ended (quiet self.old) restores) }
+    {
+        self.task = Task::Rest;
+        let back = level_to_restore(restores, self.attributes.on_level);
+        if back.is_some() {
+            actions.push_if(self.current_level != back, ActionKind::P);
+            actions.push(ActionKind::L, 0);
+            self.current_level = back;
+        }
+    }
+
+    /// Before the end: the rest of the period is waited for, or the next request is made at once.
+    #[tactic(auto, using(crate::proofs::ActionLaws::pushed), unfolding(crate::specs::Fades::fade_goes_on, crate::specs::State::with_task, transitions::specs::Actions::reports_of))]
+    fn fade_goes_on(&mut self, fade: Fade, since: Micros, now: Micros, actions: &mut Actions)
+        requires { length actions.old ≤ 5 }
+        ensures { done self.new actions.new ≡ after actions.old (fade_goes_on (quiet self.old) fade since now) }
+    {
+        let Some(until) = fade.next(since, now) else {
+            return self.ask(fade.asking(fade.left(), now), actions);
         };
-        told.then(Task::Rest, then_stored(!level.is(before)), Last::L)
-    }
-
-    // The end of a fade.
-    #[tactic(auto, unfolding(crate::specs::Answer::outcome_of, crate::specs::Fades::fade_ended))]
-    pub fn fade_ended(self, after: AfterFade) -> Effect
-        ensures { outcome_of result ≡ fade_ended self after }
-    {
-        let state = self.state;
-        let attributes = state.attributes;
-        let on_level = attributes.on_level;
-        let back = level_to_restore(after, on_level);
-        match back {
-            Level::Known(before) => self.restored(before),
-            Level::Missing => self.ends(Last::Nothing),
-        }
-    }
-
-    // Before the end: the rest of the period is waited for, or the next request is made at once.
-    #[tactic(auto, unfolding(crate::specs::Answer::outcome_of, crate::specs::Fades::fade_goes_on))]
-    pub fn fade_goes_on(self, fade: Fade, since: Micros, at: Micros) -> Effect
-        ensures { outcome_of result ≡ fade_goes_on self fade since at }
-    {
-        let remaining = fade.left();
-        let next = fade.next(since, at);
-        match next {
-            Next::Wait(until) => {
-                let waiting = fade.waiting(remaining, until);
-                self.then(Task::Fade(waiting), Then::Nothing, Last::W(until))
-            }
-            Next::Ask => {
-                let asking = fade.asking(remaining, at);
-                self.then(Task::Fade(asking), Then::Nothing, Last::D(asking.counter))
-            }
-        }
+        self.task = Task::Fade(fade.waiting(fade.left(), until));
+        actions.push(ActionKind::W, until.0);
     }
 }

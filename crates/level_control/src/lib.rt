@@ -1,15 +1,15 @@
-// The level side of the Level Control cluster as a machine by value: a state and an event give an answer, which holds the next state.
-// Derived from `LevelControlHandler` of project-chip/rs-matter 43f61585a4 (Apache-2.0, see NOTICE), and changed: its async
-// tasks are values kept in the state, its hooks are settings and answer events, and every function is proved.
+//! The level side of the Level Control cluster as a machine: a state and an event give an answer, which holds the next state.
+//! Derived from `LevelControlHandler` of project-chip/rs-matter 43f61585a4 (Apache-2.0, see NOTICE), and changed: its async
+//! tasks are values kept in the state, its hooks are settings and answer events, and every function is proved.
 #![tactic(auto)]
 
 pub mod answer;
-pub mod causes;
+mod causes;
 pub mod events;
-pub mod fades;
-pub mod moves;
-pub mod reactions;
-pub mod reports;
-pub mod rest;
+mod fades;
+mod moves;
+mod reactions;
+mod reports;
+mod rest;
 pub mod state;
-pub mod targets;
+mod targets;

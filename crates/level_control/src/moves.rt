@@ -1,166 +1,135 @@
-// Part 8: a move at a rate, from its command to its end (the source's move_command and move_transition).
-// Derived from level_control.rs of project-chip/rs-matter 43f61585a4 (see NOTICE), and changed.
-ghost use Rattle.std.specs.Prelude.{◌≡◌};
-ghost use Rattle.level_control.specs.Answer.{outcome_of};
-ghost use Rattle.level_control.specs.Moves.{begin_move, leaves_min, move_answered, move_ends, move_goes_on, move_missing, move_then, move_transition, rate_by};
+//! A move at a rate, from its first request to its end (the source's move_transition).
+//! Derived from level_control.rs of project-chip/rs-matter 43f61585a4 (see NOTICE), and changed.
+ghost use Rattle.std.specs.Prelude.{◌≡◌, [], ◌≤◌, length};
+ghost use Rattle.level_control.specs.Answer.{after, done};
+ghost use Rattle.level_control.specs.Moves.{leaves_min, move_answered, move_ends, move_goes_on, move_missing, move_then, move_transition};
+ghost use Rattle.level_control.specs.Targets.{quiet};
 
-use crate::answer::Effect;
-use crate::reports::Told;
+use crate::fades::DEVICE_FAILED;
 use crate::state::LevelControlState;
-use transitions::action_list::{Last, Then, then_coupled};
-use transitions::commands::{MoveRate, rate_in_force};
-use transitions::coupling::Coupling;
-use transitions::events::{DeviceAnswer, MoveRequest};
-use transitions::fade::{Next, wait_or_ask};
-use transitions::moves::move_period;
-use transitions::tasks::{Move, MoveCourse, MoveStep, Task, at_limit, is_move_end, next_move};
-use transitions::types::Level;
+use crate::targets::LEVEL_MISSING;
+use transitions::actions::{ActionKind, Actions};
+use transitions::events::DeviceAnswer;
+use transitions::fade::wait_or_ask;
+use transitions::tasks::{Move, MoveCourse, MoveStep, Task, is_move_end, next_move};
+use transitions::types::Moment;
 use units::Micros;
 
 impl LevelControlState {
-    // A request that leaves MIN upwards couples before it is made, in case the move is halted.
+    /// A request that leaves MIN upwards couples before it is made, in case the move is halted.
     #[tactic(auto, unfolding(crate::specs::Moves::leaves_min))]
-    pub fn leaves_min(self, asked: u8, with_on_off: bool, on_off: bool) -> Coupling
-        ensures { result ≡ leaves_min self asked with_on_off on_off }
+    fn leaves_min(&self, asked: u8, with_on_off: bool, on_off: bool) -> Option<bool>
+        ensures { result ≡ leaves_min self.now asked with_on_off on_off }
     {
-        let level = self.current_level;
-        let min_level = self.settings.min_level;
-        if level.is(min_level) & (min_level < asked) {
-            return self.update_coupled_on_off(asked, with_on_off, on_off);
+        let min = self.settings.range.min;
+        if self.current_level == Some(min) && min < asked {
+            self.update_coupled_on_off(asked, with_on_off, on_off)
+        } else {
+            None
         }
-        Coupling::NotSent
     }
 
     #[tactic(auto, unfolding(crate::specs::Moves::move_ends))]
-    pub fn move_ends(self, asked: u8) -> bool
-        ensures { result ≡ move_ends self asked }
+    fn move_ends(&self, asked: u8) -> bool
+        ensures { result ≡ move_ends self.now asked }
     {
-        is_move_end(asked, self.settings.min_level, self.settings.max_level)
+        is_move_end(asked, self.settings.range)
     }
 
-    #[tactic(auto, unfolding(crate::specs::Moves::rate_by))]
-    pub fn rate_by(self, request: MoveRequest) -> MoveRate
-        ensures { result ≡ rate_by self request }
-    {
-        let given = request.rate;
-        let attributes = self.attributes;
-        let default_move_rate = attributes.default_move_rate;
-        rate_in_force(given, default_move_rate, self.settings.fastest_rate)
-    }
-
-    // Event 2, past the options: at its limit nothing happens, and a running task goes on.
-    #[tactic(auto, unfolding(crate::specs::Answer::outcome_of, crate::specs::Moves::begin_move))]
-    pub fn begin_move(self, request: MoveRequest, at: Micros, on_off: bool) -> Effect
-        ensures { outcome_of result ≡ begin_move self request at on_off }
-    {
-        let level = self.current_level;
-        let mode = request.mode;
-        if at_limit(
-            level,
-            mode,
-            self.settings.min_level,
-            self.settings.max_level,
-        ) {
-            return self.doing(Last::Nothing);
-        }
-        let rate = self.rate_by(request);
-        match rate {
-            MoveRate::Goes(rate) => {
-                let course = MoveCourse {
-                    with_on_off: request.with_on_off,
-                    mode: mode,
-                    period: move_period(rate),
-                };
-                self.quiet().move_goes_on(course, at, on_off)
-            }
-            MoveRate::InvalidCommand => self.doing(Last::Nothing),
-        }
-    }
-
-    // The device answered a level. C at the end follows L.
-    #[tactic(auto, unfolding(crate::specs::Answer::outcome_of, crate::specs::Moves::move_transition))]
-    pub fn move_transition(
-        self,
+    /// The device answered a level. C at the end follows L.
+    #[tactic(auto, using(crate::proofs::ActionLaws::pushed_coupling, crate::proofs::ActionLaws::move_then_after), unfolding(crate::specs::Moves::move_transition, crate::specs::State::with_task))]
+    fn move_transition(
+        &mut self,
         moving: Move,
         since: Micros,
-        at: Micros,
-        on_off: bool,
+        moment: Moment,
         level: u8,
-    ) -> Effect
-        ensures { outcome_of result ≡ move_transition self moving since at on_off level }
+        actions: &mut Actions,
+    )
+        requires { actions.old ≡ [] }
+        ensures { done self.new actions.new ≡ move_transition self.old moving since moment.at moment.on_off level }
     {
-        let course = moving.course;
         let is_end = self.move_ends(moving.asked);
-        let told = self.told_level(Level::Known(level), at, is_end);
+        let with_on_off = moving.course.with_on_off;
+        let coupling = self.update_coupled_on_off(level, with_on_off, moment.on_off);
+        self.told_level(Some(level), moment.at, is_end, actions);
         if is_end {
-            let coupling = self.update_coupled_on_off(level, course.with_on_off, on_off);
-            return told.then(Task::Rest, then_coupled(coupling), Last::Nothing);
+            self.task = Task::Rest;
+            actions.push_coupling(coupling);
+        } else {
+            self.move_then(moving, since, moment, actions);
         }
-        told.move_then(moving, since, at, on_off)
     }
 
-    // A missing answer in a move, or to the on reaction's request for MIN: P, S, L, E.
-    #[tactic(auto, unfolding(crate::specs::Answer::outcome_of, crate::specs::Moves::move_missing))]
-    pub fn move_missing(self, is_end: bool, at: Micros) -> Effect
-        ensures { outcome_of result ≡ move_missing self is_end at }
+    /// A missing answer in a move, or to the on reaction's request for MIN: P, S, L, E.
+    #[tactic(auto, using(crate::proofs::ActionLaws::pushed), unfolding(crate::specs::Moves::move_missing, crate::specs::State::with_task))]
+    pub(crate) fn move_missing(&mut self, is_end: bool, now: Micros, actions: &mut Actions)
+        requires { actions.old ≡ [] }
+        ensures { done self.new actions.new ≡ move_missing self.old is_end now }
     {
-        let told = self.told_level(Level::Missing, at, is_end);
-        told.ends(Last::E(15))
+        self.told_level(None, now, is_end, actions);
+        self.task = Task::Rest;
+        actions.push(ActionKind::E, DEVICE_FAILED);
     }
 
-    #[tactic(auto, unfolding(crate::specs::Answer::outcome_of, crate::specs::Moves::move_answered))]
-    pub fn move_answered(
-        self,
+    #[tactic(auto, unfolding(crate::specs::Moves::move_answered))]
+    pub(crate) fn move_answered(
+        &mut self,
         moving: Move,
         since: Micros,
-        at: Micros,
-        on_off: bool,
         answer: DeviceAnswer,
-    ) -> Effect
-        ensures { outcome_of result ≡ move_answered self moving since at on_off answer }
+        moment: Moment,
+        actions: &mut Actions,
+    )
+        requires { actions.old ≡ [] }
+        ensures { done self.new actions.new ≡ move_answered self.old moving since moment.at moment.on_off answer }
     {
         match answer {
-            DeviceAnswer::Level(level) => self.move_transition(moving, since, at, on_off, level),
-            DeviceAnswer::Missing => self.move_missing(self.move_ends(moving.asked), at),
-            DeviceAnswer::Failed => self.device_failed(),
+            DeviceAnswer::Level(level) => self.move_transition(
+                moving, since, moment, level, actions,
+            ),
+            DeviceAnswer::Missing => self.move_missing(
+                self.move_ends(moving.asked),
+                moment.at,
+                actions,
+            ),
+            DeviceAnswer::Failed => self.device_failed(actions),
         }
     }
-}
 
-impl Told {
-    // The next request of a move, from the stored level.
-    #[tactic(auto, unfolding(crate::specs::Answer::outcome_of, crate::specs::Moves::move_goes_on))]
-    pub fn move_goes_on(self, course: MoveCourse, at: Micros, on_off: bool) -> Effect
-        ensures { outcome_of result ≡ move_goes_on self course at on_off }
+    /// The next request of a move, from the stored level.
+    #[tactic(auto, using(crate::proofs::ActionLaws::pushed, crate::proofs::ActionLaws::coupled_then), unfolding(crate::specs::Moves::move_goes_on, crate::specs::State::with_task, transitions::specs::Actions::reports_of))]
+    pub(crate) fn move_goes_on(&mut self, course: MoveCourse, moment: Moment, actions: &mut Actions)
+        requires { length actions.old ≤ 5 }
+        ensures { done self.new actions.new ≡ after actions.old (move_goes_on (quiet self.old) course moment.at moment.on_off) }
     {
-        let state = self.state;
-        let level = state.current_level;
-        let mode = course.mode;
-        let step = next_move(level, mode);
-        match step {
-            MoveStep::Lost => self.ends(Last::E(11)),
-            MoveStep::Ends => self.ends(Last::Nothing),
+        match next_move(self.current_level, course.mode) {
+            MoveStep::Lost => {
+                self.task = Task::Rest;
+                actions.push(ActionKind::E, LEVEL_MISSING);
+            }
+            MoveStep::Ends => self.task = Task::Rest,
             MoveStep::Asks(asked) => {
-                let coupling = state.leaves_min(asked, course.with_on_off, on_off);
-                let moving = course.asking(asked, at);
-                self.then(Task::Move(moving), then_coupled(coupling), Last::D(asked))
+                let coupling = self.leaves_min(asked, course.with_on_off, moment.on_off);
+                self.task = Task::Move(course.asking(asked, moment.at));
+                actions.push_coupling(coupling);
+                actions.push(ActionKind::D, u64::from(asked));
             }
         }
     }
 
-    // After an answer before the end: wait, or ask at once.
-    #[tactic(auto, unfolding(crate::specs::Answer::outcome_of, crate::specs::Moves::move_then))]
-    pub fn move_then(self, moving: Move, since: Micros, at: Micros, on_off: bool) -> Effect
-        ensures { outcome_of result ≡ move_then self moving since at on_off }
+    /// After an answer before the end: wait, or ask at once.
+    #[tactic(auto, using(crate::proofs::ActionLaws::pushed), unfolding(crate::specs::Moves::move_then, crate::specs::State::with_task, transitions::specs::Actions::reports_of))]
+    fn move_then(&mut self, moving: Move, since: Micros, moment: Moment, actions: &mut Actions)
+        requires { length actions.old ≤ 5 }
+        ensures { done self.new actions.new ≡ after actions.old (move_then (quiet self.old) moving since moment.at moment.on_off) }
     {
-        let course = moving.course;
-        let next = wait_or_ask(since, at, course.period);
-        match next {
-            Next::Wait(until) => {
-                let waiting = moving.waiting(until);
-                self.then(Task::Move(waiting), Then::Nothing, Last::W(until))
+        match wait_or_ask(since, moment.at, moving.course.period) {
+            Some(until) => {
+                self.task = Task::Move(moving.waiting(until));
+                actions.push(ActionKind::W, until.0);
             }
-            Next::Ask => self.move_goes_on(course, at, on_off),
+            None => self.move_goes_on(moving.course, moment, actions),
         }
     }
 }

@@ -1,107 +1,83 @@
-// Part 9: the reactions to on and off (the source's handle_on_off_state_change). Both are with-on-off: options never stop them.
-// Derived from level_control.rs of project-chip/rs-matter 43f61585a4 (see NOTICE), and changed.
-ghost use Rattle.std.specs.Prelude.{◌≡◌};
-ghost use Rattle.level_control.specs.Answer.{outcome_of};
-ghost use Rattle.level_control.specs.Reactions.{off_time, on_answered, on_goes_on, on_time, switched, turned_off, turned_on};
+//! The reactions to on and off (the source's handle_on_off_state_change). Both are with on/off: options never stop them.
+//! Derived from level_control.rs of project-chip/rs-matter 43f61585a4 (see NOTICE), and changed.
+ghost use Rattle.std.specs.Prelude.{◌≡◌, [], ◌≤◌, false, true, length};
+ghost use Rattle.level_control.specs.Answer.{after, done};
+ghost use Rattle.level_control.specs.Reactions.{off_time, on_answered, on_goes_on, on_time, turned_on};
+ghost use Rattle.level_control.specs.Targets.{quiet, request_to};
 
-use crate::answer::Effect;
-use crate::reports::Told;
+use crate::fades::DEVICE_FAILED;
 use crate::state::LevelControlState;
-use transitions::action_list::Last;
+use transitions::actions::{ActionKind, Actions};
 use transitions::events::DeviceAnswer;
-use transitions::tasks::{OnReaction, Task};
-use transitions::types::Level;
-use units::{Micros, Tenths};
+use transitions::tasks::{FadeRequest, OnReaction, Task};
+use transitions::types::Moment;
 
 impl LevelControlState {
-    #[tactic(auto, unfolding(crate::specs::Reactions::on_time))]
-    pub fn on_time(self) -> Tenths
-        ensures { result ≡ on_time self }
+    /// On: the device goes to MIN first, also from MIN.
+    #[tactic(auto, unfolding(crate::specs::Reactions::turned_on, crate::specs::State::with_task))]
+    pub(crate) fn turned_on(&mut self, actions: &mut Actions)
+        requires { actions.old ≡ [] }
+        ensures { done self.new actions.new ≡ turned_on self.old }
     {
-        let attributes = self.attributes;
-        let time = attributes.on_transition_time;
-        time.or_else(attributes.on_off_transition_time)
+        self.task = Task::OnReaction(OnReaction {
+            before: self.current_level,
+        });
+        actions.push(ActionKind::D, u64::from(self.settings.range.min));
     }
 
-    #[tactic(auto, unfolding(crate::specs::Reactions::off_time))]
-    pub fn off_time(self) -> Tenths
-        ensures { result ≡ off_time self }
+    /// Off: a fade to MIN that restores.
+    #[tactic(auto, unfolding(crate::specs::Reactions::off_time, transitions::specs::Types::time_or))]
+    pub(crate) fn off_request(&self) -> FadeRequest
+        ensures { result ≡ request_to self.now self.now.settings.range.min (off_time self.now) true false true }
     {
-        let attributes = self.attributes;
-        let time = attributes.off_transition_time;
-        time.or_else(attributes.on_off_transition_time)
-    }
-
-    // On: the device goes to MIN first, also from MIN.
-    #[tactic(auto, unfolding(crate::specs::Answer::outcome_of, crate::specs::Reactions::turned_on))]
-    pub fn turned_on(self) -> Effect
-        ensures { outcome_of result ≡ turned_on self }
-    {
-        let before = self.current_level;
-        let reaction = OnReaction { before: before };
-        self.with_task(Task::OnReaction(reaction))
-            .doing(Last::D(self.settings.min_level))
-    }
-
-    // Off: a fade to MIN that restores.
-    #[tactic(auto, unfolding(crate::specs::Answer::outcome_of, crate::specs::Reactions::turned_off))]
-    pub fn turned_off(self, at: Micros, on_off: bool) -> Effect
-        ensures { outcome_of result ≡ turned_off self at on_off }
-    {
-        let fade = self.request_to(self.settings.min_level, self.off_time(), true, false, true);
-        self.quiet().go_to(fade, at, on_off)
-    }
-
-    // Event 7. The event's own value decides here; C compares with the on/off value that the event carries.
-    #[tactic(auto, unfolding(crate::specs::Answer::outcome_of, crate::specs::Reactions::switched))]
-    pub fn switched(self, on: bool, at: Micros, on_off: bool) -> Effect
-        ensures { outcome_of result ≡ switched self on at on_off }
-    {
-        if on {
-            return self.turned_on();
+        let attributes = &self.attributes;
+        let time = attributes
+            .off_transition_time
+            .unwrap_or(attributes.on_off_transition_time);
+        FadeRequest {
+            restores: true,
+            ..self.request_to(self.settings.range.min, time, true)
         }
-        self.turned_off(at, on_off)
     }
 
-    // The device's answer to the request for MIN. It is no end.
-    #[tactic(auto, unfolding(crate::specs::Answer::outcome_of, crate::specs::Reactions::on_answered))]
-    pub fn on_answered(
-        self,
+    /// The device's answer to the request for MIN. It is no end.
+    #[tactic(auto, using(crate::proofs::ActionLaws::on_goes_on_after), unfolding(crate::specs::Reactions::on_answered))]
+    pub(crate) fn on_answered(
+        &mut self,
         reaction: OnReaction,
-        at: Micros,
-        on_off: bool,
         answer: DeviceAnswer,
-    ) -> Effect
-        ensures { outcome_of result ≡ on_answered self reaction at on_off answer }
+        moment: Moment,
+        actions: &mut Actions,
+    )
+        requires { actions.old ≡ [] }
+        ensures { done self.new actions.new ≡ on_answered self.old reaction moment.at moment.on_off answer }
     {
         match answer {
             DeviceAnswer::Level(level) => {
-                let told = self.told_level(Level::Known(level), at, false);
-                told.on_goes_on(reaction, at, on_off)
+                self.told_level(Some(level), moment.at, false, actions);
+                self.on_goes_on(reaction, moment, actions);
             }
-            DeviceAnswer::Missing => self.move_missing(false, at),
-            DeviceAnswer::Failed => self.device_failed(),
+            DeviceAnswer::Missing => self.move_missing(false, moment.at, actions),
+            DeviceAnswer::Failed => self.device_failed(actions),
         }
     }
-}
 
-impl Told {
-    // To the on level, else to the level before.
-    #[tactic(auto, unfolding(crate::specs::Answer::outcome_of, crate::specs::Reactions::on_goes_on))]
-    pub fn on_goes_on(self, reaction: OnReaction, at: Micros, on_off: bool) -> Effect
-        ensures { outcome_of result ≡ on_goes_on self reaction at on_off }
+    /// To the on level, else to the level before.
+    #[tactic(auto, using(crate::proofs::ActionLaws::pushed), unfolding(crate::specs::Reactions::on_goes_on, crate::specs::Reactions::on_time, transitions::specs::Types::level_or, transitions::specs::Types::time_or, crate::specs::State::with_task, transitions::specs::Actions::reports_of))]
+    fn on_goes_on(&mut self, reaction: OnReaction, moment: Moment, actions: &mut Actions)
+        requires { length actions.old ≤ 5 }
+        ensures { done self.new actions.new ≡ after actions.old (on_goes_on (quiet self.old) reaction moment.at moment.on_off) }
     {
-        let state = self.state;
-        let attributes = state.attributes;
-        let on_level = attributes.on_level;
-        let before = reaction.before;
-        let target = on_level.or_else(before);
-        match target {
-            Level::Known(level) => {
-                let fade = state.request_to(level, state.on_time(), true, false, false);
-                self.go_to(fade, at, on_off)
+        let attributes = &self.attributes;
+        let time = attributes
+            .on_transition_time
+            .unwrap_or(attributes.on_off_transition_time);
+        match attributes.on_level.or(reaction.before) {
+            Some(level) => self.go_to(self.request_to(level, time, true), moment, actions),
+            None => {
+                self.task = Task::Rest;
+                actions.push(ActionKind::E, DEVICE_FAILED);
             }
-            Level::Missing => self.ends(Last::E(15)),
         }
     }
 }

@@ -1,147 +1,71 @@
-// Part 10: start-up, a device's update, the setters and the reset.
-// Derived from level_control.rs of project-chip/rs-matter 43f61585a4 (see NOTICE), and changed.
-ghost use Rattle.std.specs.Prelude.{◌≡◌};
-ghost use Rattle.level_control.specs.Answer.{outcome_of};
-ghost use Rattle.level_control.specs.Rest.{default_move_rate_set, on_level_set, reset_all, start_up_answered, start_up_current_level_set, start_up_level, started_up, stored_start_up, updated};
+//! Start-up, and a device's update.
+//! Derived from level_control.rs of project-chip/rs-matter 43f61585a4 (see NOTICE), and changed.
+ghost use Rattle.std.specs.Prelude.{◌≡◌, []};
+ghost use Rattle.level_control.specs.Answer.{done};
+ghost use Rattle.level_control.specs.Rest.{start_up_answered, start_up_level, started_up, stored_start_up, updated};
 
-use crate::answer::Effect;
-use crate::reports::Told;
 use crate::state::LevelControlState;
-use transitions::action_list::{Last, Reports};
-use transitions::coupling::Coupling;
+use transitions::actions::{ActionKind, Actions};
 use transitions::events::DeviceAnswer;
-use transitions::settings::Attributes;
 use transitions::tasks::Task;
-use transitions::types::{Level, Rate};
-use units::{Micros, Millis, numbers};
+use transitions::types::Level;
+use units::{Micros, Millis};
 
 impl LevelControlState {
-    // The start-up level within MIN..MAX, else the stored one as it is.
+    /// The start-up level within MIN..MAX, else the stored one as it is.
     #[tactic(auto, unfolding(crate::specs::Rest::start_up_level))]
-    pub fn start_up_level(self) -> Level
-        ensures { result ≡ start_up_level self }
+    fn start_up_level(&self) -> Level
+        ensures { result ≡ start_up_level self.now }
     {
-        let attributes = self.attributes;
-        let start_up = attributes.start_up_current_level;
-        match start_up {
-            Level::Known(level) => Level::Known(numbers::clamp(
-                level,
-                self.settings.min_level,
-                self.settings.max_level,
-            )),
-            Level::Missing => self.current_level,
+        match self.attributes.start_up_current_level {
+            Some(level) => Some(self.settings.range.clamp(level)),
+            None => self.current_level,
         }
     }
 
-    // Event 0.
-    #[tactic(auto, unfolding(crate::specs::Answer::outcome_of, crate::specs::Rest::started_up))]
-    pub fn started_up(self) -> Effect
-        ensures { outcome_of result ≡ started_up self }
+    #[tactic(auto, unfolding(crate::specs::Rest::started_up, crate::specs::State::with_task))]
+    pub(crate) fn started_up(&mut self, actions: &mut Actions)
+        requires { actions.old ≡ [] }
+        ensures { done self.new actions.new ≡ started_up self.old }
     {
-        let wanted = self.start_up_level();
-        match wanted {
-            Level::Known(level) => self.with_task(Task::StartUp).doing(Last::D(level)),
-            Level::Missing => self.doing(Last::Nothing),
+        if let Some(level) = self.start_up_level() {
+            self.task = Task::StartUp;
+            actions.push(ActionKind::D, u64::from(level));
         }
     }
 
-    // An answer to start-up is stored, and told by P at most.
-    pub fn stored_start_up(self, level: Level) -> Effect
-        ensures { outcome_of result ≡ stored_start_up self level }
+    /// An answer to start-up is stored, and told by P at most.
+    #[tactic(auto, unfolding(transitions::specs::Types::same_level, crate::specs::Rest::stored_start_up, crate::specs::State::with_task, crate::specs::State::with_level))]
+    fn stored_start_up(&mut self, level: Level, actions: &mut Actions)
+        requires { actions.old ≡ [] }
+        ensures { done self.new actions.new ≡ stored_start_up self.old level }
     {
-        let old = self.current_level;
-        let reports = Reports {
-            stored: !old.same(level),
-            scene: false,
-            coupling: Coupling::NotSent,
-            level: false,
-            time: false,
-        };
-        let told = Told {
-            state: self.with_level(level),
-            reports: reports,
-        };
-        told.ends(Last::Nothing)
+        actions.push_if(self.current_level != level, ActionKind::P);
+        self.current_level = level;
+        self.task = Task::Rest;
     }
 
-    #[tactic(auto, unfolding(crate::specs::Answer::outcome_of, crate::specs::Rest::start_up_answered))]
-    pub fn start_up_answered(self, answer: DeviceAnswer) -> Effect
-        ensures { outcome_of result ≡ start_up_answered self answer }
+    #[tactic(auto, unfolding(crate::specs::Rest::start_up_answered, crate::specs::State::with_task))]
+    pub(crate) fn start_up_answered(&mut self, answer: DeviceAnswer, actions: &mut Actions)
+        requires { actions.old ≡ [] }
+        ensures { done self.new actions.new ≡ start_up_answered self.old answer }
     {
         match answer {
-            DeviceAnswer::Level(level) => self.stored_start_up(Level::Known(level)),
-            DeviceAnswer::Missing => self.stored_start_up(Level::Missing),
-            DeviceAnswer::Failed => self.with_task(Task::Rest).doing(Last::Nothing),
+            DeviceAnswer::Level(level) => self.stored_start_up(Some(level), actions),
+            DeviceAnswer::Missing => self.stored_start_up(None, actions),
+            DeviceAnswer::Failed => self.task = Task::Rest,
         }
     }
 
-    // Event 9: the device's level changed under us. It counts as an end.
-    #[tactic(auto, unfolding(crate::specs::Answer::outcome_of, crate::specs::Rest::updated))]
-    pub fn updated(self, level: u8, at: Micros) -> Effect
-        ensures { outcome_of result ≡ updated self level at }
+    /// The device's level changed under us. It counts as an end.
+    #[tactic(auto, using(crate::proofs::ActionLaws::time_told), unfolding(crate::specs::Rest::updated, crate::specs::Reports::told_level, crate::specs::State::with_task, transitions::specs::Types::same_level))]
+    pub(crate) fn updated(&mut self, level: u8, now: Micros, actions: &mut Actions)
+        requires { actions.old ≡ [] }
+        ensures { done self.new actions.new ≡ updated self.old level now }
     {
-        let old = self.current_level;
-        let stored = self.set_level(Level::Known(level), at, true);
-        let state = stored.state;
-        let written = state.write_remaining_time_quietly(Millis(0), false);
-        let next = written.state;
-        let reports = Reports {
-            stored: !old.is(level),
-            scene: true,
-            coupling: Coupling::NotSent,
-            level: stored.due,
-            time: written.due,
-        };
-        let told = Told {
-            state: next,
-            reports: reports,
-        };
-        told.ends(Last::Nothing)
-    }
-
-    // Events 11 to 13, past their refusals: the attribute is set, and K says that it is to be stored.
-
-    #[tactic(auto, unfolding(crate::specs::Answer::outcome_of, crate::specs::Rest::on_level_set))]
-    pub fn on_level_set(self, on_level: Level) -> Effect
-        ensures { outcome_of result ≡ on_level_set self on_level }
-    {
-        let attributes = self.attributes;
-        let next = Attributes {
-            on_level,
-            ..attributes
-        };
-        self.with_attributes(next).doing(Last::K)
-    }
-
-    #[tactic(auto, unfolding(crate::specs::Answer::outcome_of, crate::specs::Rest::default_move_rate_set))]
-    pub fn default_move_rate_set(self, default_move_rate: Rate) -> Effect
-        ensures { outcome_of result ≡ default_move_rate_set self default_move_rate }
-    {
-        let attributes = self.attributes;
-        let next = Attributes {
-            default_move_rate,
-            ..attributes
-        };
-        self.with_attributes(next).doing(Last::K)
-    }
-
-    #[tactic(auto, unfolding(crate::specs::Answer::outcome_of, crate::specs::Rest::start_up_current_level_set))]
-    pub fn start_up_current_level_set(self, start_up_current_level: Level) -> Effect
-        ensures { outcome_of result ≡ start_up_current_level_set self start_up_current_level }
-    {
-        let attributes = self.attributes;
-        let next = Attributes {
-            start_up_current_level,
-            ..attributes
-        };
-        self.with_attributes(next).doing(Last::K)
-    }
-
-    // Event 14.
-    #[tactic(auto, unfolding(crate::specs::Answer::outcome_of, crate::specs::Rest::reset_all))]
-    pub fn reset_all(self) -> Effect
-        ensures { outcome_of result ≡ reset_all self }
-    {
-        self.put_back().doing(Last::X)
+        self.told_level(Some(level), now, true, actions);
+        let time_due = self.write_remaining_time_quietly(Millis(0), false);
+        actions.push_if(time_due, ActionKind::R);
+        self.task = Task::Rest;
     }
 }

@@ -18,7 +18,7 @@ use Rattle.transitions.specs.declared.tasks.Task.TheVariants as task
 use Rattle.level_control.specs.Causes.{latest, time_refused, turn_tests, command_tests_of}
 use Rattle.level_control.specs.Events.{number_of, event_of}
 use Rattle.level_control.specs.Run.{accepted}
-use Rattle.level_theorems.specs.Demand1.{InPhase}
+use Rattle.level_theorems.specs.EveryEvent.{InPhase}
 use Rattle.level_theorems.specs.FadeTheorems.{AnswersAccepted, WakesAccepted}
 use Rattle.level_control.specs.declared.state.LevelControlState.{LevelControlState}
 use Rattle.level_control.proofs.EventLaws.{event_number}

@@ -1,4 +1,5 @@
 -- Every accepted event starts the fade that is named, or leaves no fade but the one that ran before. Assumes nothing.
+use Rattle.std.specs.Prelude.{Some, None, Result, Ok, Err}
 use Prim.Native.Nat.{ℕ, ◌<◌}
 use mathlib.Core.Bool.{Bool, true, false, not, ◌&&◌, ◌||◌, true≢false, false≢true}
 use mathlib.Core.Path.{◌≡◌, refl, sym, ap, ◌∙◌}
@@ -9,8 +10,6 @@ use Rattle.units.specs.Units.{tenths_down}
 use Rattle.units.specs.declared.Micros.{Micros}
 use Rattle.transitions.specs.Commands.{consults_options}
 use Rattle.transitions.specs.Events.{event}
-use Rattle.transitions.specs.declared.commands.StepTime.{StepTime}
-use Rattle.transitions.specs.declared.commands.StepTime.TheVariants.{Takes, Overflow}
 use Rattle.transitions.specs.declared.events.DeviceAnswer.{DeviceAnswer}
 use Rattle.transitions.specs.declared.events.DeviceAnswer.TheVariants as device
 use Rattle.transitions.specs.declared.events.EventKind.{EventKind}
@@ -23,8 +22,7 @@ use Rattle.transitions.specs.declared.tasks.Phase.{Phase}
 use Rattle.transitions.specs.declared.tasks.Phase.TheVariants.{Asked, Waiting}
 use Rattle.transitions.specs.declared.tasks.Task.{Task}
 use Rattle.transitions.specs.declared.tasks.Task.TheVariants as task
-use Rattle.transitions.specs.declared.types.Level.{Level}
-use Rattle.transitions.specs.declared.types.Level.TheVariants.{Known, Missing}
+use Rattle.transitions.specs.Types.{Level}
 use Rattle.transitions.specs.declared.types.OptionsBitmap.{OptionsBitmap}
 use Rattle.level_control.specs.State.{accept, with_task, with_attributes, put_back}
 use Rattle.level_control.specs.Reports.{continues}
@@ -42,6 +40,9 @@ use Rattle.level_control.specs.declared.state.LevelControlState.{LevelControlSta
 use Rattle.level_control.proofs.EventLaws.{stopped_in}
 use Rattle.level_control.proofs.StartLaws.{go_to_rests, target_is, step_is, continues_is, on_rests}
 use Rattle.level_theorems.proofs.TaskLaws.{Becomes, reacts, stays, plain, rests, move_goes, move_answered_goes, start_up_answered_goes, begin_move_goes, fade_answered_goes, fade_woken_goes}
+use Rattle.units.specs.declared.Tenths.{Tenths}
+use Rattle.transitions.specs.declared.causes.Refusal.{Refusal}
+use Rattle.transitions.specs.declared.events.Command.TheVariants as command
 
 -- What is named when the options let an event pass.
 
@@ -62,31 +63,31 @@ passed level x e = go (leb 255 level) refl x e
 module _ (s : LevelControlState) (at : Micros) (on : Bool) where
   -- an on reaction begins
   abbrev pub Reacts : EventKind → OnReaction → Type 0
-  Reacts k r = (k ≡ kind.OnOffChanged true) × (r.before ≡ s.current_level)
+  Reacts k r = (k ≡ kind.Command (command.OnOffChanged true)) × (r.before ≡ s.current_level)
 
   abbrev pub Runs : EventKind → Type 0
   Runs k = Becomes (Reacts k) s.task (is_onward k) (run (accept s at) k at on).state.task
 
-  move_to_level_none : (r : MoveToLevelRequest) → stopped_in s (event at on (kind.MoveToLevel r)) ≡ false → start_of s on (kind.MoveToLevel r) ≡ NoFade
-      → Runs (kind.MoveToLevel r)
+  move_to_level_none : (r : MoveToLevelRequest) → stopped_in s (event at on (kind.Command (command.MoveToLevel r))) ≡ false → start_of s on (kind.Command (command.MoveToLevel r)) ≡ NoFade
+      → Runs (kind.Command (command.MoveToLevel r))
   unfolding start_of run moved_to_level accept command_tests_of move_to_level_tests
   move_to_level_none r free e =
-      let pass = passed r.level (continues s r.with_on_off on r.options_mask r.options_override) free in
-      let none = when_none (leb 255 r.level || passes s r.with_on_off on r.options_mask r.options_override)
+      let pass = passed r.level (continues s r.options.with_on_off on r.options.options_mask r.options.options_override) free in
+      let none = when_none (leb 255 r.level || passes s r.options.with_on_off on r.options.options_mask r.options.options_override)
       (start_from s.current_level (target s r.level) (given_or r.transition_time 0)) e
-      (rw (continues_is s r.with_on_off on r.options_mask r.options_override) at pass) in
-      rests (Reacts (kind.MoveToLevel r)) s.task false _
+      (rw (continues_is s r.options.with_on_off on r.options.options_mask r.options.options_override) at pass) in
+      rests (Reacts (kind.Command (command.MoveToLevel r))) s.task false _
       (go_to_rests _ _ at on (given_or r.transition_time 0)
       (ap (λ (x : ℕ). start_from s.current_level x (given_or r.transition_time 0)) (target_is s r.level) ∙ none))
 
-  off_none : start_of s on (kind.OnOffChanged false) ≡ NoFade → Runs (kind.OnOffChanged false)
+  off_none : start_of s on (kind.Command (command.OnOffChanged false)) ≡ NoFade → Runs (kind.Command (command.OnOffChanged false))
   unfolding start_of run switched turned_off accept
   off_none e =
       let time : ℕ = given_or s.attributes.off_transition_time s.attributes.on_off_transition_time.0 in
-      rests (Reacts (kind.OnOffChanged false)) s.task false _
-      (go_to_rests _ _ at on time (ap (λ (x : ℕ). start_from s.current_level x time) (target_is s s.settings.min_level) ∙ e))
+      rests (Reacts (kind.Command (command.OnOffChanged false))) s.task false _
+      (go_to_rests _ _ at on time (ap (λ (x : ℕ). start_from s.current_level x time) (target_is s s.settings.range.min) ∙ e))
 
-  scene_none : (r : SceneRequest) → stopped_in s (event at on (kind.Scene r)) ≡ false → start_of s on (kind.Scene r) ≡ NoFade → Runs (kind.Scene r)
+  scene_none : (r : SceneRequest) → stopped_in s (event at on (kind.Command (command.Scene r))) ≡ false → start_of s on (kind.Command (command.Scene r)) ≡ NoFade → Runs (kind.Command (command.Scene r))
   unfolding start_of run recalled accept command_tests_of scene_tests
   scene_none r free e = by r.level free e
     where
@@ -97,40 +98,40 @@ module _ (s : LevelControlState) (at : Micros) (on : Bool) where
       time = (tenths_down r.transition_time).0
 
       by : (l : Level) → (scene_tests_at l s on).stopped_by_options ≡ false → scene_start l s on r.transition_time.0 ≡ NoFade
-          → Becomes (Reacts (kind.Scene r)) s.task false (recalled_at l (accept s at) r at on).state.task
-      by (Known level) free e =
+          → Becomes (Reacts (kind.Command (command.Scene r))) s.task false (recalled_at l (accept s at) r at on).state.task
+      by (Some level) free e =
           let pass = passed level (continues s false on bits bits) free in
           let none = when_none (leb 255 level || passes s false on bits bits) (start_from s.current_level (target s level) time) e
           (rw (continues_is s false on bits bits) at pass) in
-          rests (Reacts (kind.Scene r)) s.task false _ (go_to_rests _ _ at on time (ap (λ (x : ℕ). start_from s.current_level x time) (target_is s level) ∙ none))
-      by Missing free e = stays refl
+          rests (Reacts (kind.Command (command.Scene r))) s.task false _ (go_to_rests _ _ at on time (ap (λ (x : ℕ). start_from s.current_level x time) (target_is s level) ∙ none))
+      by None free e = stays refl
 
-  step_none : (r : StepRequest) → stopped_in s (event at on (kind.Step r)) ≡ false → start_of s on (kind.Step r) ≡ NoFade → Runs (kind.Step r)
+  step_none : (r : StepRequest) → stopped_in s (event at on (kind.Command (command.Step r))) ≡ false → start_of s on (kind.Command (command.Step r)) ≡ NoFade → Runs (kind.Command (command.Step r))
   unfolding start_of run stepped accept command_tests_of step_tests stepped_level
   step_none r free e = by s.current_level refl none
     where
-      pass : passes s r.with_on_off on r.options_mask r.options_override ≡ true
+      pass : passes s r.options.with_on_off on r.options.options_mask r.options.options_override ≡ true
       pass =
-          sym (continues_is s r.with_on_off on r.options_mask r.options_override)
-          ∙ not-false (continues s r.with_on_off on r.options_mask r.options_override) free
+          sym (continues_is s r.options.with_on_off on r.options.options_mask r.options.options_override)
+          ∙ not-false (continues s r.options.with_on_off on r.options.options_mask r.options.options_override) free
 
       none : step_start s.current_level s r ≡ NoFade
-      none = when_none (passes s r.with_on_off on r.options_mask r.options_override) (step_start s.current_level s r) e pass
+      none = when_none (passes s r.options.with_on_off on r.options.options_mask r.options.options_override) (step_start s.current_level s r) e pass
 
-      takes : (c : ℕ) → s.current_level ≡ Known c → step_start (Known c) s r ≡ NoFade → (x : StepTime)
-          → Becomes (Reacts (kind.Step r)) s.task false (stepped_by x (accept s at) c r at on).state.task
-      takes c q e (Takes time) =
+      takes : (c : ℕ) → s.current_level ≡ Some c → step_start (Some c) s r ≡ NoFade → (x : Result Tenths Refusal)
+          → Becomes (Reacts (kind.Command (command.Step r))) s.task false (stepped_by x (accept s at) c r at on).state.task
+      takes c q e (Ok time) =
           let within : ℕ = step_in r.transition_time (distance (step_to r.mode s c r.step_size) c) r.step_size in
-          rests (Reacts (kind.Step r)) s.task false _
+          rests (Reacts (kind.Command (command.Step r))) s.task false _
           (go_to_rests _ _ at on within
           (ap (λ (x : ℕ). start_from s.current_level x within) (target_is s (stepped_level s c r) ∙ ap (target s) (step_is s c r))
           ∙ ap (λ (l : Level). start_from l (target s (step_to r.mode s c r.step_size)) within) q
           ∙ e))
-      takes c q e Overflow = stays refl
+      takes c q e (Err cause) = stays refl
 
-      by : (l : Level) → s.current_level ≡ l → step_start l s r ≡ NoFade → Becomes (Reacts (kind.Step r)) s.task false (stepped_from l (accept s at) r at on).state.task
-      by (Known c) q e = takes c q e (stepped_time (accept s at) c r)
-      by Missing q e = stays refl
+      by : (l : Level) → s.current_level ≡ l → step_start l s r ≡ NoFade → Becomes (Reacts (kind.Command (command.Step r))) s.task false (stepped_from l (accept s at) r at on).state.task
+      by (Some c) q e = takes c q e (stepped_time (accept s at) c r)
+      by None q e = stays refl
 
   -- an answer, by the task whose request is open
   answer_none : (a : DeviceAnswer) (x : Task)
@@ -167,20 +168,20 @@ module _ (s : LevelControlState) (at : Micros) (on : Bool) where
   runs_none kind.StartUp free n = by (start_up_level (accept s at))
     where
       by : (l : Level) → Becomes (Reacts kind.StartUp) s.task false (start_up_at l (accept s at)).state.task
-      by (Known level) = plain (Reacts kind.StartUp) s.task false task.StartUp refl
-      by Missing = stays refl
-  runs_none (kind.MoveToLevel r) free n = move_to_level_none r free n.direct
-  runs_none (kind.Move r) free n = begin_move_goes (Reacts (kind.Move r)) false (accept s at) r at on
-  runs_none (kind.Step r) free n = step_none r free n.direct
-  runs_none (kind.Stop r) free n = plain (Reacts (kind.Stop r)) s.task false task.Rest refl
+      by (Some level) = plain (Reacts kind.StartUp) s.task false task.StartUp refl
+      by None = stays refl
+  runs_none (kind.Command (command.MoveToLevel r)) free n = move_to_level_none r free n.direct
+  runs_none (kind.Command (command.Move r)) free n = begin_move_goes (Reacts (kind.Command (command.Move r))) false (accept s at) r at on
+  runs_none (kind.Command (command.Step r)) free n = step_none r free n.direct
+  runs_none (kind.Command (command.Stop r)) free n = plain (Reacts (kind.Command (command.Stop r))) s.task false task.Rest refl
   runs_none (kind.Answer a) free n = answer_none a s.task n.on refl
   runs_none kind.Wake free n = wake_none s.task refl
-  runs_none (kind.OnOffChanged true) free n = reacts (record { before = s.current_level }) refl (refl, refl)
-  runs_none (kind.OnOffChanged false) free n = off_none n.direct
-  runs_none (kind.Scene r) free n = scene_none r free n.direct
-  runs_none (kind.DeviceUpdate level) free n = plain (Reacts (kind.DeviceUpdate level)) s.task false task.Rest refl
-  runs_none kind.DeviceStop free n = plain (Reacts kind.DeviceStop) s.task false task.Rest refl
-  runs_none (kind.SetOnLevel level) free n = stays refl
-  runs_none (kind.SetDefaultMoveRate rate) free n = stays refl
-  runs_none (kind.SetStartUpCurrentLevel level) free n = stays refl
-  runs_none kind.FactoryReset free n = plain (Reacts kind.FactoryReset) s.task false task.Rest refl
+  runs_none (kind.Command (command.OnOffChanged true)) free n = reacts (record { before = s.current_level }) refl (refl, refl)
+  runs_none (kind.Command (command.OnOffChanged false)) free n = off_none n.direct
+  runs_none (kind.Command (command.Scene r)) free n = scene_none r free n.direct
+  runs_none (kind.Command (command.DeviceUpdate level)) free n = plain (Reacts (kind.Command (command.DeviceUpdate level))) s.task false task.Rest refl
+  runs_none (kind.Command command.DeviceStop) free n = plain (Reacts (kind.Command command.DeviceStop)) s.task false task.Rest refl
+  runs_none (kind.Command (command.SetOnLevel level)) free n = stays refl
+  runs_none (kind.Command (command.SetDefaultMoveRate rate)) free n = stays refl
+  runs_none (kind.Command (command.SetStartUpCurrentLevel level)) free n = stays refl
+  runs_none (kind.Command command.FactoryReset) free n = plain (Reacts (kind.Command command.FactoryReset)) s.task false task.Rest refl

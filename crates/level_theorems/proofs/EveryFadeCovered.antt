@@ -4,7 +4,7 @@ use mathlib.Core.Bool.{Bool, true, false, true≢false}
 use mathlib.Core.Path.{◌≡◌, refl, sym, ap, subst, ◌∙◌}
 use native.Mathlib.Omega.{arith}
 use Rattle.units.specs.declared.Micros.{Micros}
-use Rattle.transitions.specs.Events.{event, turn_of}
+use Rattle.transitions.specs.Events.{event}
 use Rattle.transitions.specs.declared.events.DeviceAnswer.TheVariants as device
 use Rattle.transitions.specs.declared.events.Event.{Event}
 use Rattle.transitions.specs.declared.events.EventKind.{EventKind}
@@ -25,6 +25,7 @@ use Rattle.level_control.proofs.StartLaws.{Starting, go_to_starts, direct_starts
 use Rattle.level_control.proofs.EveryFade.{accepted_zero}
 use Rattle.level_theorems.proofs.TaskLaws.{Becomes, gone, reacts, further, stays, is_plain}
 use Rattle.level_theorems.proofs.Coverage.{Reacts, runs_none}
+use Rattle.transitions.specs.declared.events.Command.TheVariants as command
 
 covers : (R : OnReaction → Type 0) (s : LevelControlState) (e : Event) (s' : LevelControlState) → NoneNamed s e
     → Becomes R s.task (is_onward e.kind) s'.task → Covered s e s'
@@ -55,8 +56,8 @@ data View (x : Task) (k : EventKind) : Type 0 where
   reaction : (r : OnReaction) (v : ℕ) → x ≡ task.OnReaction r → k ≡ kind.Answer (device.Level v) → View x k
   other : ((r : OnReaction) (v : ℕ) → x ≡ task.OnReaction r → k ≡ kind.Answer (device.Level v) → ⊥) → View x k
 
-no_answer : (x : Task) (k : EventKind) → count_answer (turn_of k) ≡ 0 → View x k
-no_answer x k h = other (λ r v p q. let one : count_answer (turn_of k) ≡ 1 = ap (λ (y : EventKind). count_answer (turn_of y)) q in omega arith)
+no_answer : (x : Task) (k : EventKind) → count_answer k ≡ 0 → View x k
+no_answer x k h = other (λ r v p q. let one : count_answer k ≡ 1 = ap (λ (y : EventKind). count_answer y) q in omega arith)
 
 level_view : (x : Task) (v : ℕ) → View x (kind.Answer (device.Level v))
 level_view task.Rest v = other (λ r w p q. let z : ◌≡◌ {A = ℕ} 0 1 = cc in omega arith)
@@ -67,22 +68,22 @@ level_view (task.OnReaction r) v = reaction r v refl refl
 
 view : (x : Task) (k : EventKind) → View x k
 view x kind.StartUp = no_answer x _ refl
-view x (kind.MoveToLevel r) = no_answer x _ refl
-view x (kind.Move r) = no_answer x _ refl
-view x (kind.Step r) = no_answer x _ refl
-view x (kind.Stop r) = no_answer x _ refl
+view x (kind.Command (command.MoveToLevel r)) = no_answer x _ refl
+view x (kind.Command (command.Move r)) = no_answer x _ refl
+view x (kind.Command (command.Step r)) = no_answer x _ refl
+view x (kind.Command (command.Stop r)) = no_answer x _ refl
 view x (kind.Answer (device.Level v)) = level_view x v
 view x (kind.Answer device.Missing) = other (λ r v p q. true≢false (sym (ap is_onward q)))
 view x (kind.Answer device.Failed) = other (λ r v p q. true≢false (sym (ap is_onward q)))
 view x kind.Wake = no_answer x _ refl
-view x (kind.OnOffChanged b) = no_answer x _ refl
-view x (kind.Scene r) = no_answer x _ refl
-view x (kind.DeviceUpdate l) = no_answer x _ refl
-view x kind.DeviceStop = no_answer x _ refl
-view x (kind.SetOnLevel l) = no_answer x _ refl
-view x (kind.SetDefaultMoveRate r) = no_answer x _ refl
-view x (kind.SetStartUpCurrentLevel l) = no_answer x _ refl
-view x kind.FactoryReset = no_answer x _ refl
+view x (kind.Command (command.OnOffChanged b)) = no_answer x _ refl
+view x (kind.Command (command.Scene r)) = no_answer x _ refl
+view x (kind.Command (command.DeviceUpdate l)) = no_answer x _ refl
+view x (kind.Command command.DeviceStop) = no_answer x _ refl
+view x (kind.Command (command.SetOnLevel l)) = no_answer x _ refl
+view x (kind.Command (command.SetDefaultMoveRate r)) = no_answer x _ refl
+view x (kind.Command (command.SetStartUpCurrentLevel l)) = no_answer x _ refl
+view x (kind.Command command.FactoryReset) = no_answer x _ refl
 
 module _ (s : LevelControlState) (at : Micros) (on : Bool) where
   -- where none is named
@@ -138,4 +139,4 @@ module _ (s : LevelControlState) (at : Micros) (on : Bool) where
       by NoFade e = seen e (view s.task k)
 
 pub every_fade_covered : EveryFadeCovered
-every_fade_covered s e ok = covered s e.at e.on_off e.kind (accepted_zero s e ok)
+every_fade_covered s e ok = covered s e.moment.at e.moment.on_off e.kind (accepted_zero s e ok)

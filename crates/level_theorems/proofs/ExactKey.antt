@@ -36,6 +36,7 @@ use Rattle.level_control.proofs.EventLaws.{event_number, event_runs, run_zero}
 use Rattle.level_control.proofs.FadeInvariant.{Inv, next_is, refused_is}
 use Rattle.level_control.proofs.EveryFade.{kept}
 use Rattle.level_theorems.proofs.StartTimes.{start_time}
+use Rattle.transitions.specs.declared.events.Command.TheVariants as command
 
 -- Before the first answer.
 
@@ -80,22 +81,22 @@ module _ (m : Tenths) where
   quiet_onward : (r : Run) (at : Micros) (on : Bool) (k : EventKind) → is_onward k ≡ true → number_of r.state (event at on k) ≡ 0
       → Quiet m r → Quiet m (next r (event at on k))
   quiet_onward r at on kind.StartUp w z h = absurd (false≢true w)
-  quiet_onward r at on (kind.MoveToLevel x) w z h = absurd (false≢true w)
-  quiet_onward r at on (kind.Move x) w z h = absurd (false≢true w)
-  quiet_onward r at on (kind.Step x) w z h = absurd (false≢true w)
-  quiet_onward r at on (kind.Stop x) w z h = absurd (false≢true w)
+  quiet_onward r at on (kind.Command (command.MoveToLevel x)) w z h = absurd (false≢true w)
+  quiet_onward r at on (kind.Command (command.Move x)) w z h = absurd (false≢true w)
+  quiet_onward r at on (kind.Command (command.Step x)) w z h = absurd (false≢true w)
+  quiet_onward r at on (kind.Command (command.Stop x)) w z h = absurd (false≢true w)
   quiet_onward r at on (kind.Answer (device.Level v)) w z h = quiet_answer r at on v z
   quiet_onward r at on (kind.Answer device.Missing) w z h = absurd (false≢true w)
   quiet_onward r at on (kind.Answer device.Failed) w z h = absurd (false≢true w)
   quiet_onward r at on kind.Wake w z h = quiet_wake r at on z h
-  quiet_onward r at on (kind.OnOffChanged x) w z h = absurd (false≢true w)
-  quiet_onward r at on (kind.Scene x) w z h = absurd (false≢true w)
-  quiet_onward r at on (kind.DeviceUpdate x) w z h = absurd (false≢true w)
-  quiet_onward r at on kind.DeviceStop w z h = absurd (false≢true w)
-  quiet_onward r at on (kind.SetOnLevel x) w z h = absurd (false≢true w)
-  quiet_onward r at on (kind.SetDefaultMoveRate x) w z h = absurd (false≢true w)
-  quiet_onward r at on (kind.SetStartUpCurrentLevel x) w z h = absurd (false≢true w)
-  quiet_onward r at on kind.FactoryReset w z h = absurd (false≢true w)
+  quiet_onward r at on (kind.Command (command.OnOffChanged x)) w z h = absurd (false≢true w)
+  quiet_onward r at on (kind.Command (command.Scene x)) w z h = absurd (false≢true w)
+  quiet_onward r at on (kind.Command (command.DeviceUpdate x)) w z h = absurd (false≢true w)
+  quiet_onward r at on (kind.Command command.DeviceStop) w z h = absurd (false≢true w)
+  quiet_onward r at on (kind.Command (command.SetOnLevel x)) w z h = absurd (false≢true w)
+  quiet_onward r at on (kind.Command (command.SetDefaultMoveRate x)) w z h = absurd (false≢true w)
+  quiet_onward r at on (kind.Command (command.SetStartUpCurrentLevel x)) w z h = absurd (false≢true w)
+  quiet_onward r at on (kind.Command command.FactoryReset) w z h = absurd (false≢true w)
 
   quiet_next : (r : Run) (e : Event) → (not (accepted r.state e) || is_onward e.kind) ≡ true → Quiet m r → Quiet m (next r e)
   quiet_next r e w h = go (eqb (number_of r.state e) 0) refl
@@ -103,7 +104,7 @@ module _ (m : Tenths) where
       go : (b : Bool) → eqb (number_of r.state e) 0 ≡ b → Quiet m (next r e)
       go true q =
           let onward : is_onward e.kind ≡ true = rw (event_number r.state e, q) at w in
-          quiet_onward r e.at e.on_off e.kind onward (eqb-true (number_of r.state e) 0 q) h
+          quiet_onward r e.moment.at e.moment.on_off e.kind onward (eqb-true (number_of r.state e) 0 q) h
       go false q = rw (refused_is 0 0 1 (omega arith) (omega arith) r e (eqb-false (number_of r.state e) 0 q)) h
 
   quiet_play : (es : List Event) (r : Run) → only_onward r es ≡ true → Quiet m r → Quiet m (play r es)

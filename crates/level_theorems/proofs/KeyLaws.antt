@@ -2,7 +2,7 @@
 use mathlib.Core.Path.{◌≡◌, refl}
 use mathlib.Core.List.{List, [], ◌∷◌}
 use Rattle.units.specs.Units.{scaled_floor}
-use Rattle.transitions.specs.ActionList.{reports_of}
+use Rattle.transitions.specs.Actions.{reports_of}
 use Rattle.level_control.specs.Causes.{command_tests_of, move_to_level_tests, time_refused, turn_tests}
 use Rattle.level_control.specs.Events.{answered, event_of, number_of, run}
 use Rattle.level_control.specs.Fades.{fade_answered, fade_coupling, fade_ended, fade_goes_on, fade_stored, fade_told, move_to_level_transition}

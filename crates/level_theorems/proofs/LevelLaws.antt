@@ -1,4 +1,5 @@
 -- Where the level and the attributes after an event come from, read off what becomes of these fields. Assumes nothing.
+use Rattle.std.specs.Prelude.{Option, Some, None, ℕ}
 use mathlib.Core.Bool.{Bool, true, false}
 use mathlib.Core.Path.{◌≡◌, refl, ap}
 use lib.Dec.{eqb}
@@ -7,18 +8,16 @@ use Rattle.transitions.specs.declared.events.DeviceAnswer.{DeviceAnswer}
 use Rattle.transitions.specs.declared.events.DeviceAnswer.TheVariants as device
 use Rattle.transitions.specs.declared.events.EventKind.{EventKind}
 use Rattle.transitions.specs.declared.events.EventKind.TheVariants as kind
-use Rattle.transitions.specs.declared.tasks.AfterFade.{AfterFade}
-use Rattle.transitions.specs.declared.tasks.AfterFade.TheVariants.{Stay, Restore}
 use Rattle.transitions.specs.declared.tasks.Fade.{Fade}
 use Rattle.transitions.specs.declared.tasks.Task.{Task}
 use Rattle.transitions.specs.declared.tasks.Task.TheVariants as task
-use Rattle.transitions.specs.declared.types.Level.{Level}
-use Rattle.transitions.specs.declared.types.Level.TheVariants.{Known, Missing}
+use Rattle.transitions.specs.Types.{Level}
 use Rattle.event_theorems.specs.Brings.{brings, answer_tells, start_up_tells, fade_back, task_tells, task_back}
 use Rattle.event_theorems.specs.Fields.{level_told, level_after, attributes_after}
-use Rattle.level_theorems.specs.Demand1 as claim
-use Rattle.level_theorems.specs.Demand1.{LevelFrom, AttributesFrom, unchanged, by_set_on_level, by_set_default_move_rate, by_set_start_up, by_factory_reset}
+use Rattle.level_theorems.specs.EveryEvent as claim
+use Rattle.level_theorems.specs.EveryEvent.{LevelFrom, AttributesFrom, unchanged, by_set_on_level, by_set_default_move_rate, by_set_start_up, by_factory_reset}
 use Rattle.level_control.specs.declared.state.LevelControlState.{LevelControlState}
+use Rattle.transitions.specs.declared.events.Command.TheVariants as command
 
 module _ (s : LevelControlState) where
   -- an answer that is stored as it is, or fails
@@ -33,13 +32,13 @@ module _ (s : LevelControlState) where
   start_up_from device.Failed = claim.kept
 
   -- a fade may store the level before it back
-  level_from_fade : (f : Fade) (a : DeviceAnswer) (last : Bool) (on : Level) (after : AfterFade)
+  level_from_fade : (f : Fade) (a : DeviceAnswer) (last : Bool) (on : Level) (after : Option ℕ)
       → s.task ≡ task.Fade f → eqb f.counter f.target ≡ last → s.attributes.on_level ≡ on → f.after ≡ after
       → LevelFrom s (kind.Answer a) (level_or (fade_back a last on after) (level_told (answer_tells a last) s.current_level))
   unfolding level_or
-  level_from_fade f (device.Level v) true Missing (Restore before) runs ends none back = claim.restored runs ends back (ap is_missing none) refl
-  level_from_fade f (device.Level v) true Missing Stay runs ends none back = claim.answered refl
-  level_from_fade f (device.Level v) true (Known on) after runs ends none back = claim.answered refl
+  level_from_fade f (device.Level v) true None (Some before) runs ends none back = claim.restored runs ends back (ap is_missing none) refl
+  level_from_fade f (device.Level v) true None None runs ends none back = claim.answered refl
+  level_from_fade f (device.Level v) true (Some on) after runs ends none back = claim.answered refl
   level_from_fade f (device.Level v) false on after runs ends none back = claim.answered refl
   level_from_fade f device.Missing last on after runs ends none back = claim.missing refl
   level_from_fade f device.Failed last on after runs ends none back = claim.kept
@@ -56,34 +55,34 @@ module _ (s : LevelControlState) where
   pub level_from : (k : EventKind) → LevelFrom s k (level_after s (brings s k))
   unfolding level_or
   level_from kind.StartUp = claim.kept
-  level_from (kind.MoveToLevel r) = claim.kept
-  level_from (kind.Move r) = claim.kept
-  level_from (kind.Step r) = claim.kept
-  level_from (kind.Stop r) = claim.kept
+  level_from (kind.Command (command.MoveToLevel r)) = claim.kept
+  level_from (kind.Command (command.Move r)) = claim.kept
+  level_from (kind.Command (command.Step r)) = claim.kept
+  level_from (kind.Command (command.Stop r)) = claim.kept
   level_from (kind.Answer a) = answer_from a s.task refl
   level_from kind.Wake = claim.kept
-  level_from (kind.OnOffChanged value) = claim.kept
-  level_from (kind.Scene r) = claim.kept
-  level_from (kind.DeviceUpdate level) = claim.updated refl
-  level_from kind.DeviceStop = claim.kept
-  level_from (kind.SetOnLevel level) = claim.kept
-  level_from (kind.SetDefaultMoveRate rate) = claim.kept
-  level_from (kind.SetStartUpCurrentLevel level) = claim.kept
-  level_from kind.FactoryReset = claim.kept
+  level_from (kind.Command (command.OnOffChanged value)) = claim.kept
+  level_from (kind.Command (command.Scene r)) = claim.kept
+  level_from (kind.Command (command.DeviceUpdate level)) = claim.updated refl
+  level_from (kind.Command command.DeviceStop) = claim.kept
+  level_from (kind.Command (command.SetOnLevel level)) = claim.kept
+  level_from (kind.Command (command.SetDefaultMoveRate rate)) = claim.kept
+  level_from (kind.Command (command.SetStartUpCurrentLevel level)) = claim.kept
+  level_from (kind.Command command.FactoryReset) = claim.kept
 
   pub attributes_from : (k : EventKind) → AttributesFrom s k (attributes_after s (brings s k))
   attributes_from kind.StartUp = unchanged
-  attributes_from (kind.MoveToLevel r) = unchanged
-  attributes_from (kind.Move r) = unchanged
-  attributes_from (kind.Step r) = unchanged
-  attributes_from (kind.Stop r) = unchanged
+  attributes_from (kind.Command (command.MoveToLevel r)) = unchanged
+  attributes_from (kind.Command (command.Move r)) = unchanged
+  attributes_from (kind.Command (command.Step r)) = unchanged
+  attributes_from (kind.Command (command.Stop r)) = unchanged
   attributes_from (kind.Answer a) = unchanged
   attributes_from kind.Wake = unchanged
-  attributes_from (kind.OnOffChanged value) = unchanged
-  attributes_from (kind.Scene r) = unchanged
-  attributes_from (kind.DeviceUpdate level) = unchanged
-  attributes_from kind.DeviceStop = unchanged
-  attributes_from (kind.SetOnLevel level) = by_set_on_level refl
-  attributes_from (kind.SetDefaultMoveRate rate) = by_set_default_move_rate refl
-  attributes_from (kind.SetStartUpCurrentLevel level) = by_set_start_up refl
-  attributes_from kind.FactoryReset = by_factory_reset refl
+  attributes_from (kind.Command (command.OnOffChanged value)) = unchanged
+  attributes_from (kind.Command (command.Scene r)) = unchanged
+  attributes_from (kind.Command (command.DeviceUpdate level)) = unchanged
+  attributes_from (kind.Command command.DeviceStop) = unchanged
+  attributes_from (kind.Command (command.SetOnLevel level)) = by_set_on_level refl
+  attributes_from (kind.Command (command.SetDefaultMoveRate rate)) = by_set_default_move_rate refl
+  attributes_from (kind.Command (command.SetStartUpCurrentLevel level)) = by_set_start_up refl
+  attributes_from (kind.Command command.FactoryReset) = by_factory_reset refl

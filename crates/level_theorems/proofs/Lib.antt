@@ -3,7 +3,7 @@ pub mod PatternLaws
 pub mod ShapeLaws
 pub mod OrderLaws
 pub mod WaitLaws
-pub mod Demand1Laws
+pub mod EveryEventLaws
 pub mod PathTheorem
 pub mod Acceptance
 pub mod TaskLaws

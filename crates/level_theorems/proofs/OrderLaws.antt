@@ -1,4 +1,5 @@
--- The letters of every event stand in document 01's orders. Assumes nothing.
+-- The letters of every event stand in the orders of Events and answers. Assumes nothing.
+use Rattle.std.specs.Prelude.{Option, Some, None, ℕ, Bool}
 use Prim.Native.Nat.{ℕ, ◌+◌, ◌-◌, ◌*◌}
 use mathlib.Core.Bool.{Bool, true, false, cond, not, ◌&&◌}
 use mathlib.Core.Path.{◌≡◌, refl, sym, ◌∙◌}
@@ -12,18 +13,14 @@ use Rattle.transitions.specs.Events.{act, act_if, act_coupled}
 use Rattle.transitions.specs.Fade.{next_level}
 use Rattle.transitions.specs.Matter.{changed}
 use Rattle.transitions.specs.Types.{is_missing}
-use Rattle.transitions.specs.declared.coupling.Coupling.{Coupling}
-use Rattle.transitions.specs.declared.coupling.Coupling.TheVariants.{NotSent}
-use Rattle.transitions.specs.declared.events.Action.{Action}
-use Rattle.transitions.specs.declared.events.ActionKind.{ActionKind}
-use Rattle.transitions.specs.declared.events.ActionKind.TheVariants.{D, P, S, C, L, R, W, E, K, X}
+use Rattle.transitions.specs.declared.actions.Action.{Action}
+use Rattle.transitions.specs.declared.actions.ActionKind.{ActionKind}
+use Rattle.transitions.specs.declared.actions.ActionKind.TheVariants.{D, P, S, C, L, R, W, E, K, X}
 use Rattle.transitions.specs.declared.events.DeviceAnswer.{DeviceAnswer}
 use Rattle.transitions.specs.declared.events.DeviceAnswer.TheVariants as device
 use Rattle.transitions.specs.declared.events.EventKind.{EventKind}
 use Rattle.transitions.specs.declared.events.EventKind.TheVariants as kind
 use Rattle.transitions.specs.declared.events.StepRequest.{StepRequest}
-use Rattle.transitions.specs.declared.tasks.AfterFade.{AfterFade}
-use Rattle.transitions.specs.declared.tasks.AfterFade.TheVariants.{Stay, Restore}
 use Rattle.transitions.specs.declared.tasks.Fade.{Fade}
 use Rattle.transitions.specs.declared.tasks.Move.{Move}
 use Rattle.transitions.specs.declared.tasks.MoveCourse.{MoveCourse}
@@ -32,8 +29,7 @@ use Rattle.transitions.specs.declared.tasks.Phase.{Phase}
 use Rattle.transitions.specs.declared.tasks.Phase.TheVariants.{Asked, Waiting}
 use Rattle.transitions.specs.declared.tasks.Task.{Task}
 use Rattle.transitions.specs.declared.tasks.Task.TheVariants as task
-use Rattle.transitions.specs.declared.types.Level.{Level}
-use Rattle.transitions.specs.declared.types.Level.TheVariants.{Known, Missing}
+use Rattle.transitions.specs.Types.{Level}
 use Rattle.transitions.specs.declared.types.Mode.{Mode}
 use Rattle.transitions.specs.declared.types.Mode.TheVariants.{Up, Down}
 use Rattle.level_control.specs.Starts.{given_or, step_to, target}
@@ -46,6 +42,7 @@ use Rattle.event_theorems.specs.Letters.{back_letters, couples, couples_first, c
 use Rattle.event_theorems.proofs.AnswerLaws.{at_task}
 use Rattle.level_theorems.specs.Orders.{kinds_of, OneOf, this, later, orders, answer_orders, wake_orders, fade_orders, move_orders, on_orders, start_up_orders}
 use Rattle.level_theorems.proofs.PatternLaws.{Fits, none, both, one, one_if, one_coupled}
+use Rattle.transitions.specs.declared.events.Command.TheVariants as command
 
 -- actions whose kinds stand in one of some orders
 pub record Ordered (ps : List (List ActionKind)) (l : List Action) : Type 0 where
@@ -81,49 +78,49 @@ after_one k l x (p ∷ ps) h (later g) = later (after_one k l x ps h g)
 after : {k : ActionKind} {l x : List Action} {ps : List (List ActionKind)} → Fits (k ∷ []) l → Ordered ps x → Ordered (before k ps) (l ++ x)
 after {k} {l} {x} {ps} h g = record { kinds = after_one k l x ps h g.kinds }
 
-known_not_missing : {A : Type 0} (v : ℕ) → Known v ≡ Missing → A
+known_not_missing : {A : Type 0} (v : ℕ) → Some v ≡ None → A
 known_not_missing v e = absurd (let z : ◌≡◌ {A = ℕ} 0 1 = cc in omega arith)
 
 module _ (s : LevelControlState) (at : Micros) (on : Bool) where
   -- a target that is reached, or that there is no level to start for, or that is asked for
   target_ordered : (ps : List (List ActionKind)) (l : Level) (t T : ℕ) (with_on_off scene restores : Bool)
       → Ordered ps (act_coupled (couples s.settings with_on_off on t) ++ (act_if (restores && is_missing s.attributes.on_level) L ++ []))
-      → (l ≡ Missing → Ordered ps (act E 11)) → ((n : ℕ) → Ordered ps (act D n))
+      → (l ≡ None → Ordered ps (act E 11)) → ((n : ℕ) → Ordered ps (act D n))
       → Ordered ps
       (act_coupled (couples_reached l t with_on_off s.settings on)
       ++ (act_if (reached l t && (restores && is_missing s.attributes.on_level)) L ++ course_letter (towards l t T with_on_off scene restores at)))
-  target_ordered ps (Known c) t T with_on_off scene restores there lost asks = by (eqb c t)
+  target_ordered ps (Some c) t T with_on_off scene restores there lost asks = by (eqb c t)
     where
       by : (b : Bool)
           → Ordered ps
-          (act_coupled (cond b (couples s.settings with_on_off on t) NotSent)
+          (act_coupled (cond b (couples s.settings with_on_off on t) None)
           ++ (act_if (b && (restores && is_missing s.attributes.on_level)) L
           ++ course_letter (cond b course.AtRest (course.Asks (next_level c t (tenths T)) (task.Fade (course.fade_over c t T with_on_off scene restores at))))))
       by true = there
       by false = asks (next_level c t (tenths T))
-  target_ordered ps Missing t T with_on_off scene restores there lost asks = lost refl
+  target_ordered ps None t T with_on_off scene restores there lost asks = lost refl
 
   -- the next request of a move
-  step_fits : (x : Coupling) (n : ℕ) (t : Task) (b : Bool) → Fits (C ∷ D ∷ []) (act_coupled x ++ course_letter (cond b (course.Asks n t) course.AtRest))
+  step_fits : (x : Option Bool) (n : ℕ) (t : Task) (b : Bool) → Fits (C ∷ D ∷ []) (act_coupled x ++ course_letter (cond b (course.Asks n t) course.AtRest))
   step_fits x n t true = both _ _ (one_coupled x) (one D n)
   step_fits x n t false = both _ _ (one_coupled x) (nil (D ∷ []))
 
   move_ordered : (m : MoveCourse) (mode : Mode) (l : Level)
       → Ordered ((C ∷ D ∷ []) ∷ (E ∷ []) ∷ []) (act_coupled (leaves_min mode l m s.settings on) ++ course_letter (course.step m mode l at))
-  move_ordered m Up (Known c) =
-      first (step_fits (leaves_min Up (Known c) m s.settings on) (c + 1) (task.Move (record { course = m; asked = c + 1; phase = Asked at })) (ltb c 255))
-  move_ordered m Down (Known c) = first (step_fits NotSent (c - 1) (task.Move (record { course = m; asked = c - 1; phase = Asked at })) (ltb 0 c))
-  move_ordered m Up Missing = second (one E 11)
-  move_ordered m Down Missing = second (one E 11)
+  move_ordered m Up (Some c) =
+      first (step_fits (leaves_min Up (Some c) m s.settings on) (c + 1) (task.Move (record { course = m; asked = c + 1; phase = Asked at })) (ltb c 255))
+  move_ordered m Down (Some c) = first (step_fits None (c - 1) (task.Move (record { course = m; asked = c - 1; phase = Asked at })) (ltb 0 c))
+  move_ordered m Up None = second (one E 11)
+  move_ordered m Down None = second (one E 11)
 
   start_up_ordered : (l c : Level) → Ordered ((D ∷ []) ∷ []) (course_letter (course.start_up l c s))
-  start_up_ordered (Known level) c = first (one D _)
-  start_up_ordered Missing (Known level) = first (one D level)
-  start_up_ordered Missing Missing = silent
+  start_up_ordered (Some level) c = first (one D _)
+  start_up_ordered None (Some level) = first (one D level)
+  start_up_ordered None None = silent
 
   begin_ordered : (m : MoveCourse) (mode : Mode) (b : Bool)
       → Ordered ((C ∷ D ∷ []) ∷ (E ∷ []) ∷ [])
-      (act_coupled (cond b NotSent (leaves_min mode s.current_level m s.settings on))
+      (act_coupled (cond b None (leaves_min mode s.current_level m s.settings on))
       ++ course_letter (cond b course.AsItWas (course.step m mode s.current_level at)))
   begin_ordered m mode true = silent
   begin_ordered m mode false = move_ordered m mode s.current_level
@@ -138,23 +135,23 @@ module _ (s : LevelControlState) (at : Micros) (on : Bool) where
   step_ordered : (r : StepRequest) (l : Level) → s.current_level ≡ l
       → Ordered ((D ∷ []) ∷ (C ∷ []) ∷ []) (letters s (Runs (step_target l s r)) at on)
   unfolding letters course.course
-  step_ordered r (Known c) e =
+  step_ordered r (Some c) e =
       let t = target s (step_to r.mode s c r.step_size) in
-      target_ordered _ s.current_level t _ r.with_on_off false false (second (both _ _ (one_coupled (couples s.settings r.with_on_off on t)) (nil [])))
+      target_ordered _ s.current_level t _ r.options.with_on_off false false (second (both _ _ (one_coupled (couples s.settings r.options.with_on_off on t)) (nil [])))
       (λ m. known_not_missing c (sym e ∙ m)) (λ n. first (one D n))
-  step_ordered r Missing e = silent
+  step_ordered r None e = silent
 
   scene_ordered : (l : Level) (ms : ℕ) → Ordered ((D ∷ []) ∷ (E ∷ []) ∷ []) (letters s (Runs (scene_target l s ms)) at on)
   unfolding letters course.course coupled_on_off
-  scene_ordered (Known level) ms = target_ordered _ s.current_level _ _ false true false silent (λ m. second (one E 11)) (λ n. first (one D n))
-  scene_ordered Missing ms = silent
+  scene_ordered (Some level) ms = target_ordered _ s.current_level _ _ false true false silent (λ m. second (one E 11)) (λ n. first (one D n))
+  scene_ordered None ms = silent
 
 -- Answers.
 module _ (s : LevelControlState) (at : Micros) (on : Bool) where
   start_up_answer : (a : DeviceAnswer) → Ordered (start_up_orders a) (letters (at_task s task.StartUp) (Answers a) at on)
   unfolding letters course.course
-  start_up_answer (device.Level v) = first (both _ _ (one_if (changed s.current_level (Known v)) P) (nil []))
-  start_up_answer device.Missing = first (both _ _ (one_if (changed s.current_level Missing) P) (nil []))
+  start_up_answer (device.Level v) = first (both _ _ (one_if (changed s.current_level (Some v)) P) (nil []))
+  start_up_answer device.Missing = first (both _ _ (one_if (changed s.current_level None) P) (nil []))
   start_up_answer device.Failed = silent
 
   -- P, S, C, L, R, and then W, D or the level stored back
@@ -163,7 +160,7 @@ module _ (s : LevelControlState) (at : Micros) (on : Bool) where
   fade_answer_ordered f (device.Level v) =
       let x = at_task s (task.Fade f) in
       let b = Answers (device.Level v) in
-      after (one_if (changed s.current_level (Known v)) P)
+      after (one_if (changed s.current_level (Some v)) P)
       (after (one_if (not f.scene_apply) S)
       (after (one_coupled (couples_first x b on))
       (after (one_if (reports_level x b at) L)
@@ -174,12 +171,12 @@ module _ (s : LevelControlState) (at : Micros) (on : Bool) where
       goes_on true u n x y = first (one W u)
       goes_on false u n x y = second (one D n)
 
-      by : (b : Bool) (on_level : Level) (after : AfterFade) (p : Phase)
+      by : (b : Bool) (on_level : Level) (after : Option ℕ) (p : Phase)
           → Ordered ((W ∷ []) ∷ (D ∷ []) ∷ (P ∷ L ∷ []) ∷ [])
-          (back_letters (fade_back (device.Level v) b on_level after) (Known v) ++ course_letter (cond b course.AtRest (course.fade_on f p at)))
-      by true Missing (Restore level) p = third (both _ _ (both _ _ (one_if (not (eqb v level)) P) (one L 0)) (nil []))
-      by true Missing Stay p = silent
-      by true (Known level) _ p = silent
+          (back_letters (fade_back (device.Level v) b on_level after) (Some v) ++ course_letter (cond b course.AtRest (course.fade_on f p at)))
+      by true None (Some level) p = third (both _ _ (both _ _ (one_if (not (eqb v level)) P) (one L 0)) (nil []))
+      by true None None p = silent
+      by true (Some level) _ p = silent
       by false on_level _ (Asked since) =
           let left = f.remaining.0 - f.period.0 in
           let u = course.until since (f.period.0 * 1000) in
@@ -187,34 +184,34 @@ module _ (s : LevelControlState) (at : Micros) (on : Bool) where
           goes_on (leb (at.0 - since.0) (f.period.0 * 1000)) u n (task.Fade (course.fade_at f left f.counter (Waiting (micros u))))
           (task.Fade (course.fade_at f left n (Asked at)))
       by false on_level _ (Waiting until) = silent
-  fade_answer_ordered f device.Missing = first (both _ _ (one_if (changed s.current_level Missing) P) (both _ _ (one_if (not f.scene_apply) S) (one E 15)))
+  fade_answer_ordered f device.Missing = first (both _ _ (one_if (changed s.current_level None) P) (both _ _ (one_if (not f.scene_apply) S) (one E 15)))
   fade_answer_ordered f device.Failed = first (one E 15)
 
   -- P, S, L, and then C at the end, or W, or C and D
   move_answer_ordered : (m : Move) (a : DeviceAnswer) → Ordered (move_orders a) (letters (at_task s (task.Move m)) (Answers a) at on)
   unfolding letters course.course
   move_answer_ordered m (device.Level v) =
-      after (one_if (changed s.current_level (Known v)) P)
+      after (one_if (changed s.current_level (Some v)) P)
       (after (one S 0)
       (after (one_if (reports_level (at_task s (task.Move m)) (Answers (device.Level v)) at) L) (by (is_end m.asked s.settings) m.phase)))
     where
-      moves_on : (mode : Mode) → Fits (C ∷ D ∷ []) (act_coupled (leaves_min mode (Known v) m.course s.settings on) ++ course_letter (course.step m.course mode (Known v) at))
+      moves_on : (mode : Mode) → Fits (C ∷ D ∷ []) (act_coupled (leaves_min mode (Some v) m.course s.settings on) ++ course_letter (course.step m.course mode (Some v) at))
       moves_on Up =
-          step_fits s at on (leaves_min Up (Known v) m.course s.settings on) (v + 1)
+          step_fits s at on (leaves_min Up (Some v) m.course s.settings on) (v + 1)
           (task.Move (record { course = m.course; asked = v + 1; phase = Asked at })) (ltb v 255)
-      moves_on Down = step_fits s at on NotSent (v - 1) (task.Move (record { course = m.course; asked = v - 1; phase = Asked at })) (ltb 0 v)
+      moves_on Down = step_fits s at on None (v - 1) (task.Move (record { course = m.course; asked = v - 1; phase = Asked at })) (ltb 0 v)
 
       goes_on : (w : Bool) (u : ℕ) (x : Task)
           → Ordered ((C ∷ []) ∷ (W ∷ []) ∷ (C ∷ D ∷ []) ∷ [])
-          (act_coupled (cond w NotSent (leaves_min m.course.mode (Known v) m.course s.settings on))
-          ++ course_letter (cond w (course.Waits u x) (course.step m.course m.course.mode (Known v) at)))
+          (act_coupled (cond w None (leaves_min m.course.mode (Some v) m.course s.settings on))
+          ++ course_letter (cond w (course.Waits u x) (course.step m.course m.course.mode (Some v) at)))
       goes_on true u x = second (one W u)
       goes_on false u x = third (moves_on m.course.mode)
 
       by : (b : Bool) (p : Phase)
           → Ordered ((C ∷ []) ∷ (W ∷ []) ∷ (C ∷ D ∷ []) ∷ [])
           (act_coupled (cond b (couples s.settings m.course.with_on_off on v) (move_on_couples m p v s.settings on at))
-          ++ course_letter (cond b course.AtRest (course.move_on m p (Known v) at)))
+          ++ course_letter (cond b course.AtRest (course.move_on m p (Some v) at)))
       by true p = first (both _ _ (one_coupled (couples s.settings m.course.with_on_off on v)) (nil []))
       by false (Asked since) =
           let u = course.until since m.course.period.0 in
@@ -222,7 +219,7 @@ module _ (s : LevelControlState) (at : Micros) (on : Bool) where
       by false (Waiting until) = silent
   move_answer_ordered m device.Missing =
       first
-      (both _ _ (one_if (changed s.current_level Missing) P)
+      (both _ _ (one_if (changed s.current_level None) P)
       (both _ _ (one S 0) (both _ _ (one_if (reports_level (at_task s (task.Move m)) (Answers device.Missing) at) L) (one E 15))))
   move_answer_ordered m device.Failed = first (one E 15)
 
@@ -230,7 +227,7 @@ module _ (s : LevelControlState) (at : Micros) (on : Bool) where
   on_answer_ordered : (r : OnReaction) (a : DeviceAnswer) → Ordered (on_orders a) (letters (at_task s (task.OnReaction r)) (Answers a) at on)
   unfolding letters course.course
   on_answer_ordered r (device.Level v) =
-      after (one_if (changed s.current_level (Known v)) P)
+      after (one_if (changed s.current_level (Some v)) P)
       (after (one S 0)
       (after (one_if (reports_level (at_task s (task.OnReaction r)) (Answers (device.Level v)) at) L) (by s.attributes.on_level r.before)))
     where
@@ -239,7 +236,7 @@ module _ (s : LevelControlState) (at : Micros) (on : Bool) where
 
       to : (t T : ℕ) (b : Bool)
           → Ordered ((C ∷ []) ∷ (D ∷ []) ∷ (E ∷ []) ∷ [])
-          (act_coupled (cond b (couples s.settings true on t) NotSent)
+          (act_coupled (cond b (couples s.settings true on t) None)
           ++ course_letter (cond b course.AtRest (course.Asks (next_level v t (tenths T)) (task.Fade (course.fade_over v t T true false false at)))))
       to t T true = first (both _ _ (one_coupled (couples s.settings true on t)) (nil []))
       to t T false = second (one D (next_level v t (tenths T)))
@@ -247,12 +244,12 @@ module _ (s : LevelControlState) (at : Micros) (on : Bool) where
       by : (l before : Level)
           → Ordered ((C ∷ []) ∷ (D ∷ []) ∷ (E ∷ []) ∷ [])
           (act_coupled (on_reached l before v (at_task s (task.OnReaction r)) on) ++ course_letter (course.on_towards l before v (at_task s (task.OnReaction r)) at))
-      by (Known level) before = to (target s level) within (eqb v (target s level))
-      by Missing (Known level) = to (target s level) within (eqb v (target s level))
-      by Missing Missing = third (one E 15)
+      by (Some level) before = to (target s level) within (eqb v (target s level))
+      by None (Some level) = to (target s level) within (eqb v (target s level))
+      by None None = third (one E 15)
   on_answer_ordered r device.Missing =
       first
-      (both _ _ (one_if (changed s.current_level Missing) P)
+      (both _ _ (one_if (changed s.current_level None) P)
       (both _ _ (one S 0) (both _ _ (one_if (reports_level (at_task s (task.OnReaction r)) (Answers device.Missing) at) L) (one E 15))))
   on_answer_ordered r device.Failed = first (one E 15)
 
@@ -267,29 +264,29 @@ module _ (s : LevelControlState) (at : Micros) (on : Bool) where
 pub letters_ordered : (s : LevelControlState) (k : EventKind) (at : Micros) (on : Bool) → Ordered (orders s.task k) (letters s (brings s k) at on)
 unfolding orders letters course.course
 letters_ordered s kind.StartUp at on = start_up_ordered s at on s.attributes.start_up_current_level s.current_level
-letters_ordered s (kind.MoveToLevel r) at on =
+letters_ordered s (kind.Command (command.MoveToLevel r)) at on =
     let t = target s r.level in
-    target_ordered s at on _ s.current_level t _ r.with_on_off false false
-    (second (both _ _ (one_coupled (couples s.settings r.with_on_off on t)) (nil []))) (λ m. third (one E 11)) (λ n. first (one D n))
-letters_ordered s (kind.Move r) at on =
+    target_ordered s at on _ s.current_level t _ r.options.with_on_off false false
+    (second (both _ _ (one_coupled (couples s.settings r.options.with_on_off on t)) (nil []))) (λ m. third (one E 11)) (λ n. first (one D n))
+letters_ordered s (kind.Command (command.Move r)) at on =
     begin_ordered s at on (course.course_of_move s r) r.mode (course.at_limit r.mode s.current_level s.settings)
-letters_ordered s (kind.Step r) at on = step_ordered s at on r s.current_level refl
-letters_ordered s (kind.Stop r) at on = first (both _ _ (one_if (reports_time s bring.Stops) R) (nil []))
+letters_ordered s (kind.Command (command.Step r)) at on = step_ordered s at on r s.current_level refl
+letters_ordered s (kind.Command (command.Stop r)) at on = first (both _ _ (one_if (reports_time s bring.Stops) R) (nil []))
 letters_ordered s (kind.Answer a) at on = answer_ordered s at on a s.task
 letters_ordered s kind.Wake at on = wake_ordered s at on s.task
-letters_ordered s (kind.OnOffChanged true) at on = first (one D s.settings.min_level)
-letters_ordered s (kind.OnOffChanged false) at on =
-    let t = target s s.settings.min_level in
+letters_ordered s (kind.Command (command.OnOffChanged true)) at on = first (one D s.settings.range.min)
+letters_ordered s (kind.Command (command.OnOffChanged false)) at on =
+    let t = target s s.settings.range.min in
     target_ordered s at on _ s.current_level t _ true false true
     (second (both _ _ (one_coupled (couples s.settings true on t)) (both _ _ (one_if (is_missing s.attributes.on_level) L) (nil []))))
     (λ m. third (one E 11)) (λ n. first (one D n))
-letters_ordered s (kind.Scene r) at on = scene_ordered s at on r.level r.transition_time.0
-letters_ordered s (kind.DeviceUpdate level) at on =
+letters_ordered s (kind.Command (command.Scene r)) at on = scene_ordered s at on r.level r.transition_time.0
+letters_ordered s (kind.Command (command.DeviceUpdate level)) at on =
     first
-    (both _ _ (one_if (changed s.current_level (Known level)) P)
+    (both _ _ (one_if (changed s.current_level (Some level)) P)
     (both _ _ (one S 0) (both _ _ (one L 0) (both _ _ (one_if (reports_time s (bring.Updates level)) R) (nil [])))))
-letters_ordered s kind.DeviceStop at on = first (both _ _ (one_if (reports_time s bring.Stops) R) (nil []))
-letters_ordered s (kind.SetOnLevel level) at on = first (one K 0)
-letters_ordered s (kind.SetDefaultMoveRate rate) at on = first (one K 0)
-letters_ordered s (kind.SetStartUpCurrentLevel level) at on = first (one K 0)
-letters_ordered s kind.FactoryReset at on = first (one X 0)
+letters_ordered s (kind.Command command.DeviceStop) at on = first (both _ _ (one_if (reports_time s bring.Stops) R) (nil []))
+letters_ordered s (kind.Command (command.SetOnLevel level)) at on = first (one K 0)
+letters_ordered s (kind.Command (command.SetDefaultMoveRate rate)) at on = first (one K 0)
+letters_ordered s (kind.Command (command.SetStartUpCurrentLevel level)) at on = first (one K 0)
+letters_ordered s (kind.Command command.FactoryReset) at on = first (one X 0)

@@ -1,4 +1,5 @@
 -- Lists of actions and the patterns that they leave entries out of. Assumes nothing.
+use Rattle.std.specs.Prelude.{Option, Some, None, Bool}
 use Prim.Native.Nat.{ℕ, suc, ◌≤◌}
 use mathlib.Core.Bool.{Bool, true, false, cond, ◌&&◌}
 use mathlib.Core.Path.{◌≡◌, refl, ap}
@@ -8,15 +9,11 @@ use borrow.Author.Tests.{leb-true}
 use lib.Dec.{leb}
 use lib.ListN.{length}
 use Rattle.transitions.specs.Events.{act, act_if, act_coupled}
-use Rattle.transitions.specs.declared.coupling.Coupling.{Coupling}
-use Rattle.transitions.specs.declared.coupling.Coupling.TheVariants.{Sent, NotSent}
-use Rattle.transitions.specs.declared.events.Action.{Action}
-use Rattle.transitions.specs.declared.events.ActionKind.{ActionKind}
-use Rattle.transitions.specs.declared.events.ActionKind.TheVariants.{P, S, C, L, R}
+use Rattle.transitions.specs.declared.actions.Action.{Action}
+use Rattle.transitions.specs.declared.actions.ActionKind.{ActionKind}
+use Rattle.transitions.specs.declared.actions.ActionKind.TheVariants.{C}
 use Rattle.transitions.proofs.Booleans.{and_first, and_second}
-use Rattle.transitions.specs.ActionList.{reports_of}
 use Rattle.level_theorems.specs.Orders.{kinds_of, LeavesOut, end, takes, leaves, OneOf, this, later}
-use Rattle.transitions.specs.declared.action_list.Reports.{Reports}
 
 -- actions whose kinds a pattern leads to
 pub record Fits (pattern : List ActionKind) (l : List Action) : Type 0 where
@@ -55,16 +52,9 @@ pub one_if : (test : Bool) (k : ActionKind) → Fits (k ∷ []) (act_if test k)
 one_if true k = one k 0
 one_if false k = record { kinds = leaves end }
 
-pub one_coupled : (c : Coupling) → Fits (C ∷ []) (act_coupled c)
-one_coupled (Sent wanted) = one C (cond wanted 1 0)
-one_coupled NotSent = record { kinds = leaves end }
-
-pub reports_fit : (r : Reports) → Fits (P ∷ S ∷ C ∷ L ∷ R ∷ []) (reports_of r)
-unfolding reports_of
-reports_fit r =
-    both _ _
-    (both _ _ (both _ _ (both _ _ (one_if r.stored P) (one_if r.scene S)) (one_coupled r.coupling)) (one_if r.level L))
-    (one_if r.time R)
+pub one_coupled : (c : Option Bool) → Fits (C ∷ []) (act_coupled c)
+one_coupled (Some wanted) = one C (cond wanted 1 0)
+one_coupled None = record { kinds = leaves end }
 
 -- nothing that is left out makes a list longer
 

@@ -17,7 +17,7 @@ use Rattle.transitions.specs.RemainingTime.{remaining_time_due}
 use Rattle.transitions.specs.Tasks.{fade_asking, fade_waiting, fade_from, level_to_restore, begin_fade}
 use Rattle.transitions.specs.Types.{same_level, level_or, time_or}
 use Rattle.level_control.specs.State.{new_state, accept, with_task, with_level, with_remaining_time, with_answered}
-use Rattle.transitions.specs.ActionList.{reports_of}
+use Rattle.transitions.specs.Actions.{reports_of}
 use Rattle.level_control.specs.Answer.{Outcome}
 use Rattle.level_control.specs.Reports.{write_remaining_time, level_due, set_level, told_level, coupled_by, continues}
 use Rattle.level_control.specs.Targets.{go_to, moved_to_level, stepped_level, stepped_time, stepped, recalled}
@@ -27,7 +27,7 @@ use Rattle.level_control.specs.Causes.{time_refused, turn_tests, move_to_level_t
 use Rattle.level_control.specs.Events.{answered, woken, run, number_of, event_of}
 use Rattle.level_control.specs.Run.{Request, next, started, play, only_onward}
 use Rattle.level_control.specs.Starts.{start_of, on_start, distance}
-use Rattle.level_control.specs.Demand3.{Starts, directly, after_on}
+use Rattle.level_control.specs.EveryFade.{Starts, directly, after_on}
 use Rattle.level_theorems.specs.Replies.{answers_from, in_time}
 use Rattle.level_theorems.specs.Instances.{device3, lamp, move_to13, step_by3, off, scene_of13, on, between, answer2, follows, numbers_of, Instance, Instances}
 use Rattle.level_control.proofs.EveryFade.{every_fade}

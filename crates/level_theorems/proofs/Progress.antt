@@ -9,7 +9,7 @@ use lib.Dec.{leb}
 use lib.ListN.{length}
 use Rattle.units.specs.Units.{micros}
 use Rattle.units.specs.declared.Micros.{Micros}
-use Rattle.transitions.specs.Events.{event, turn_of}
+use Rattle.transitions.specs.Events.{event}
 use Rattle.transitions.specs.Tasks.{task_open, phase_open, fade_asking}
 use Rattle.transitions.specs.declared.events.DeviceAnswer.TheVariants as device
 use Rattle.transitions.specs.declared.events.Event.{Event}
@@ -27,7 +27,7 @@ use Rattle.level_control.specs.Fades.{fade_woken}
 use Rattle.level_control.specs.Events.{woken_in, number_of, event_of}
 use Rattle.level_control.specs.Run.{Run, accepted, count_answer, is_onward, started, next_by, next, play, only_onward}
 use Rattle.level_control.specs.Starts.{distance}
-use Rattle.level_control.specs.Demand3.{Shown}
+use Rattle.level_control.specs.EveryFade.{Shown}
 use Rattle.level_theorems.specs.Replies.{Reply, wake_in, wake_of, replies, answers_from, in_time}
 use Rattle.level_theorems.specs.FadeTheorems.{ComesToRest}
 use Rattle.level_control.specs.declared.state.LevelControlState.{LevelControlState}
@@ -41,11 +41,11 @@ pub next_state_is : (r : Run) (e : Event) → (next r e).state ≡ (event_of r.s
 unfolding next
 next_state_is r e = by (accepted r.state e)
   where
-    by : (b : Bool) → (next_by b (event_of r.state e) (turn_of e.kind) r).state ≡ (event_of r.state e).state
+    by : (b : Bool) → (next_by b (event_of r.state e) e.kind r).state ≡ (event_of r.state e).state
     by true = refl
     by false = refl
 
-pub next_answers : (r : Run) (e : Event) → accepted r.state e ≡ true → (next r e).answers ≡ r.answers + count_answer (turn_of e.kind)
+pub next_answers : (r : Run) (e : Event) → accepted r.state e ≡ true → (next r e).answers ≡ r.answers + count_answer e.kind
 unfolding next
 next_answers r e h = rw h refl
 
@@ -76,11 +76,11 @@ module _ (c t T : ℕ) (pos : 1 ≤ T) (small : T ≤ 65535) where
   answer_leads p ps goal r h is_open left time =
       let e : Event = replies r.state p in
       let others : Bool = in_time (answers_from (next r e) ps) in
-      let soon : e.at.0 ≤ latest.0 = leb-true e.at.0 latest.0 (and_first (leb e.at.0 latest.0) others time) in
-      let ok : accepted r.state e ≡ true = answers_accepted r.state (device.Level p.level) e.at p.on is_open (omega arith) soon in
+      let soon : e.moment.at.0 ≤ latest.0 = leb-true e.moment.at.0 latest.0 (and_first (leb e.moment.at.0 latest.0) others time) in
+      let ok : accepted r.state e ≡ true = answers_accepted r.state (device.Level p.level) e.moment.at p.on is_open (omega arith) soon in
       let count : (next r e).answers ≡ r.answers + 1 = next_answers r e ok in
       let on : (not (accepted r.state e) || is_onward e.kind) ≡ true = or_second (not (accepted r.state e)) true refl in
-      let rest = goal (next r e) (keep c t T pos small r e on h) (omega arith) (and_second (leb e.at.0 latest.0) others time) in
+      let rest = goal (next r e) (keep c t T pos small r e on h) (omega arith) (and_second (leb e.moment.at.0 latest.0) others time) in
       (and_both _ _ on rest.0, rest.1)
 
   -- a wake before it, where the fade waits

@@ -1,4 +1,4 @@
--- An on reaction comes only from event 7 (on), and keeps the level that it found. Assumes nothing.
+-- An on reaction comes only from on, and keeps the level that it found. Assumes nothing.
 use Prim.Native.Nat.{ℕ}
 use mathlib.Core.Bool.{Bool, true, false, true≢false}
 use mathlib.Core.Path.{◌≡◌, refl, sym, ap, ◌∙◌}
@@ -30,26 +30,27 @@ use Rattle.level_control.proofs.EveryFade.{accepted_zero}
 use Rattle.level_theorems.proofs.TaskLaws.{Becomes, gone, reacts, further, stays, is_plain}
 use Rattle.level_theorems.proofs.Coverage.{Reacts, runs_none}
 use Rattle.level_theorems.proofs.EveryFadeCovered.{begins}
+use Rattle.transitions.specs.declared.events.Command.TheVariants as command
 
 -- with a request open only an answer is accepted
 open_answers : (s : LevelControlState) (at : Micros) (on : Bool) (k : EventKind) → task_open s.task ≡ true → number_of s (event at on k) ≡ 0
     → (a : DeviceAnswer) × (k ≡ kind.Answer a)
 unfolding number_of turn_tests
 open_answers s at on kind.StartUp o z = absurd (true≢false (sym o ∙ (turn_passes _ _ z).not_open))
-open_answers s at on (kind.MoveToLevel r) o z = absurd (true≢false (sym o ∙ (turn_passes _ _ z).not_open))
-open_answers s at on (kind.Move r) o z = absurd (true≢false (sym o ∙ (turn_passes _ _ z).not_open))
-open_answers s at on (kind.Step r) o z = absurd (true≢false (sym o ∙ (turn_passes _ _ z).not_open))
-open_answers s at on (kind.Stop r) o z = absurd (true≢false (sym o ∙ (turn_passes _ _ z).not_open))
+open_answers s at on (kind.Command (command.MoveToLevel r)) o z = absurd (true≢false (sym o ∙ (turn_passes _ _ z).not_open))
+open_answers s at on (kind.Command (command.Move r)) o z = absurd (true≢false (sym o ∙ (turn_passes _ _ z).not_open))
+open_answers s at on (kind.Command (command.Step r)) o z = absurd (true≢false (sym o ∙ (turn_passes _ _ z).not_open))
+open_answers s at on (kind.Command (command.Stop r)) o z = absurd (true≢false (sym o ∙ (turn_passes _ _ z).not_open))
 open_answers s at on (kind.Answer a) o z = (a, refl)
 open_answers s at on kind.Wake o z = absurd (true≢false (sym o ∙ (turn_passes _ _ z).not_open))
-open_answers s at on (kind.OnOffChanged value) o z = absurd (true≢false (sym o ∙ (turn_passes _ _ z).not_open))
-open_answers s at on (kind.Scene r) o z = absurd (true≢false (sym o ∙ (turn_passes _ _ z).not_open))
-open_answers s at on (kind.DeviceUpdate level) o z = absurd (true≢false (sym o ∙ (turn_passes _ _ z).not_open))
-open_answers s at on kind.DeviceStop o z = absurd (true≢false (sym o ∙ (turn_passes _ _ z).not_open))
-open_answers s at on (kind.SetOnLevel level) o z = absurd (true≢false (sym o ∙ (turn_passes _ _ z).not_open))
-open_answers s at on (kind.SetDefaultMoveRate rate) o z = absurd (true≢false (sym o ∙ (turn_passes _ _ z).not_open))
-open_answers s at on (kind.SetStartUpCurrentLevel level) o z = absurd (true≢false (sym o ∙ (turn_passes _ _ z).not_open))
-open_answers s at on kind.FactoryReset o z = absurd (true≢false (sym o ∙ (turn_passes _ _ z).not_open))
+open_answers s at on (kind.Command (command.OnOffChanged value)) o z = absurd (true≢false (sym o ∙ (turn_passes _ _ z).not_open))
+open_answers s at on (kind.Command (command.Scene r)) o z = absurd (true≢false (sym o ∙ (turn_passes _ _ z).not_open))
+open_answers s at on (kind.Command (command.DeviceUpdate level)) o z = absurd (true≢false (sym o ∙ (turn_passes _ _ z).not_open))
+open_answers s at on (kind.Command command.DeviceStop) o z = absurd (true≢false (sym o ∙ (turn_passes _ _ z).not_open))
+open_answers s at on (kind.Command (command.SetOnLevel level)) o z = absurd (true≢false (sym o ∙ (turn_passes _ _ z).not_open))
+open_answers s at on (kind.Command (command.SetDefaultMoveRate rate)) o z = absurd (true≢false (sym o ∙ (turn_passes _ _ z).not_open))
+open_answers s at on (kind.Command (command.SetStartUpCurrentLevel level)) o z = absurd (true≢false (sym o ∙ (turn_passes _ _ z).not_open))
+open_answers s at on (kind.Command command.FactoryReset) o z = absurd (true≢false (sym o ∙ (turn_passes _ _ z).not_open))
 
 abbrev is_reaction : Task → Bool
 is_reaction task.Rest = false
@@ -79,7 +80,7 @@ module _ (s : LevelControlState) (at : Micros) (on : Bool) where
       ap (λ (o : Outcome). is_reaction o.state.task) (event_runs s (event at on (kind.Answer device.Failed)) z refl)
       ∙ ap (λ (x : Task). is_reaction (answered_in x (accept s at) device.Failed at on).state.task) q
 
-  -- from another task, only event 7 (on) leads to a reaction
+  -- from another task, only on leads to a reaction
   becomes : (k : EventKind) (y : Task) (r : OnReaction) → y ≡ task.OnReaction r → is_reaction s.task ≡ false
       → Becomes (Reacts s at on k) s.task (is_onward k) y → Reacts s at on k r
   becomes k y r e no-reaction (gone h) = absurd (true≢false (sym h ∙ ap is_plain e))
@@ -119,4 +120,4 @@ module _ (s : LevelControlState) (at : Micros) (on : Bool) where
       by (task.OnReaction b) q = ended b q (open_answers s at on k (ap task_open q) z)
 
 pub reactions_covered : ReactionsCovered
-reactions_covered s e r ok q = covered s e.at e.on_off e.kind r (accepted_zero s e ok) q
+reactions_covered s e r ok q = covered s e.moment.at e.moment.on_off e.kind r (accepted_zero s e ok) q

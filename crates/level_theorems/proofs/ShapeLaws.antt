@@ -2,7 +2,7 @@
 use mathlib.Core.Bool.{true, false}
 use mathlib.Core.Path.{◌≡◌, refl}
 use mathlib.Core.List.{List, [], ◌∷◌}
-use Rattle.transitions.specs.declared.events.ActionKind.{ActionKind}
+use Rattle.transitions.specs.declared.actions.ActionKind.{ActionKind}
 use Rattle.transitions.specs.declared.events.DeviceAnswer.{DeviceAnswer}
 use Rattle.transitions.specs.declared.events.DeviceAnswer.TheVariants as device
 use Rattle.transitions.specs.declared.events.EventKind.{EventKind}
@@ -11,6 +11,7 @@ use Rattle.transitions.specs.declared.tasks.Task.{Task}
 use Rattle.transitions.specs.declared.tasks.Task.TheVariants as task
 use Rattle.level_theorems.specs.Orders.{OneOf, this, orders, answer_orders, start_up_orders, fade_orders, move_orders, on_orders, wake_orders}
 use Rattle.level_theorems.proofs.PatternLaws.{none, short}
+use Rattle.transitions.specs.declared.events.Command.TheVariants as command
 
 pub record Shape (ps : List (List ActionKind)) : Type 0 where
   pub silent : OneOf ps []
@@ -56,18 +57,18 @@ wake_shape (task.OnReaction r) = shape _ _ refl
 pub orders_shape : (t : Task) (k : EventKind) → Shape (orders t k)
 unfolding orders
 orders_shape t kind.StartUp = shape _ _ refl
-orders_shape t (kind.MoveToLevel r) = shape _ _ refl
-orders_shape t (kind.Move r) = shape _ _ refl
-orders_shape t (kind.Step r) = shape _ _ refl
-orders_shape t (kind.Stop r) = shape _ _ refl
+orders_shape t (kind.Command (command.MoveToLevel r)) = shape _ _ refl
+orders_shape t (kind.Command (command.Move r)) = shape _ _ refl
+orders_shape t (kind.Command (command.Step r)) = shape _ _ refl
+orders_shape t (kind.Command (command.Stop r)) = shape _ _ refl
 orders_shape t (kind.Answer a) = answer_shape t a
 orders_shape t kind.Wake = wake_shape t
-orders_shape t (kind.OnOffChanged true) = shape _ _ refl
-orders_shape t (kind.OnOffChanged false) = shape _ _ refl
-orders_shape t (kind.Scene r) = shape _ _ refl
-orders_shape t (kind.DeviceUpdate level) = shape _ _ refl
-orders_shape t kind.DeviceStop = shape _ _ refl
-orders_shape t (kind.SetOnLevel level) = shape _ _ refl
-orders_shape t (kind.SetDefaultMoveRate rate) = shape _ _ refl
-orders_shape t (kind.SetStartUpCurrentLevel level) = shape _ _ refl
-orders_shape t kind.FactoryReset = shape _ _ refl
+orders_shape t (kind.Command (command.OnOffChanged true)) = shape _ _ refl
+orders_shape t (kind.Command (command.OnOffChanged false)) = shape _ _ refl
+orders_shape t (kind.Command (command.Scene r)) = shape _ _ refl
+orders_shape t (kind.Command (command.DeviceUpdate level)) = shape _ _ refl
+orders_shape t (kind.Command command.DeviceStop) = shape _ _ refl
+orders_shape t (kind.Command (command.SetOnLevel level)) = shape _ _ refl
+orders_shape t (kind.Command (command.SetDefaultMoveRate rate)) = shape _ _ refl
+orders_shape t (kind.Command (command.SetStartUpCurrentLevel level)) = shape _ _ refl
+orders_shape t (kind.Command command.FactoryReset) = shape _ _ refl

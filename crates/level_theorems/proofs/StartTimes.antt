@@ -1,4 +1,5 @@
 -- The start of a fade does not write the remaining time. Assumes nothing.
+use Rattle.std.specs.Prelude.{Some, None, Result, Ok, Err}
 use Prim.Native.Nat.{ℕ}
 use mathlib.Core.Bool.{Bool, true, false}
 use mathlib.Core.Path.{◌≡◌, refl, ap, subst, ◌∙◌}
@@ -7,8 +8,6 @@ use Rattle.units.specs.declared.Micros.{Micros}
 use Rattle.transitions.specs.Events.{event}
 use Rattle.transitions.specs.Tasks.{begin_fade}
 use Rattle.transitions.specs.Types.{level_or}
-use Rattle.transitions.specs.declared.commands.StepTime.{StepTime}
-use Rattle.transitions.specs.declared.commands.StepTime.TheVariants.{Takes, Overflow}
 use Rattle.transitions.specs.declared.events.DeviceAnswer.TheVariants as device
 use Rattle.transitions.specs.declared.events.Event.{Event}
 use Rattle.transitions.specs.declared.events.EventKind.{EventKind}
@@ -17,8 +16,7 @@ use Rattle.transitions.specs.declared.events.StepRequest.{StepRequest}
 use Rattle.transitions.specs.declared.tasks.Begin.{Begin}
 use Rattle.transitions.specs.declared.tasks.Begin.TheVariants as begin
 use Rattle.transitions.specs.declared.tasks.FadeRequest.{FadeRequest}
-use Rattle.transitions.specs.declared.types.Level.{Level}
-use Rattle.transitions.specs.declared.types.Level.TheVariants.{Known, Missing}
+use Rattle.transitions.specs.Types.{Level}
 use Rattle.level_control.specs.State.{accept, with_task, with_answered}
 use Rattle.level_control.specs.Answer.{Outcome}
 use Rattle.level_control.specs.Reports.{set_level, told_level}
@@ -27,13 +25,16 @@ use Rattle.level_control.specs.Reactions.{turned_off, switched, on_to, on_goes_o
 use Rattle.level_control.specs.Events.{run, number_of, event_of}
 use Rattle.level_control.specs.Run.{accepted, all_refused, state_after}
 use Rattle.level_control.specs.Starts.{Fades, start_of}
-use Rattle.level_control.specs.Demand3.{Starts, directly, after_on}
+use Rattle.level_control.specs.EveryFade.{Starts, directly, after_on}
 use Rattle.level_theorems.specs.FadeTheorems.{given_in}
-use Rattle.level_control.specs.declared.reports.Told.{Told}
+use Rattle.level_control.specs.Reports.{Told}
 use Rattle.level_control.specs.declared.state.LevelControlState.{LevelControlState}
 use Rattle.level_control.proofs.EventLaws.{event_stopped, event_runs, stopped_in}
 use Rattle.level_control.proofs.StartLaws.{no_fade, reacting, on_is, refused_stays, on_answer, on_answered_is}
 use Rattle.level_control.proofs.EveryFade.{accepted_zero}
+use Rattle.units.specs.declared.Tenths.{Tenths}
+use Rattle.transitions.specs.declared.causes.Refusal.{Refusal}
+use Rattle.transitions.specs.declared.events.Command.TheVariants as command
 
 -- What does not write the remaining time.
 
@@ -50,40 +51,40 @@ stepped_time_keeps : (s : LevelControlState) (r : StepRequest) (at : Micros) (on
 unfolding stepped
 stepped_time_keeps s r at on = by s.current_level
   where
-    takes : (c : ℕ) (x : StepTime) → (stepped_by x s c r at on).state.remaining_time ≡ s.remaining_time
-    takes c (Takes time) = go_to_time _ _ at on
-    takes c Overflow = refl
+    takes : (c : ℕ) (x : Result Tenths Refusal) → (stepped_by x s c r at on).state.remaining_time ≡ s.remaining_time
+    takes c (Ok time) = go_to_time _ _ at on
+    takes c (Err cause) = refl
 
     by : (l : Level) → (stepped_from l s r at on).state.remaining_time ≡ s.remaining_time
-    by (Known c) = takes c (stepped_time s c r)
-    by Missing = refl
+    by (Some c) = takes c (stepped_time s c r)
+    by None = refl
 
 -- an event that starts a fade
 run_time : (s : LevelControlState) (at : Micros) (on : Bool) (c t T : ℕ) (k : EventKind) → start_of s on k ≡ Fades c t T
     → (run (accept s at) k at on).state.remaining_time ≡ s.remaining_time
 unfolding start_of run moved_to_level recalled switched turned_off accept
 run_time s at on c t T kind.StartUp e = no_fade c t T e
-run_time s at on c t T (kind.MoveToLevel r) e = go_to_time _ _ at on
-run_time s at on c t T (kind.Move r) e = no_fade c t T e
-run_time s at on c t T (kind.Step r) e = stepped_time_keeps (accept s at) r at on
-run_time s at on c t T (kind.Stop r) e = no_fade c t T e
+run_time s at on c t T (kind.Command (command.MoveToLevel r)) e = go_to_time _ _ at on
+run_time s at on c t T (kind.Command (command.Move r)) e = no_fade c t T e
+run_time s at on c t T (kind.Command (command.Step r)) e = stepped_time_keeps (accept s at) r at on
+run_time s at on c t T (kind.Command (command.Stop r)) e = no_fade c t T e
 run_time s at on c t T (kind.Answer a) e = no_fade c t T e
 run_time s at on c t T kind.Wake e = no_fade c t T e
-run_time s at on c t T (kind.OnOffChanged true) e = no_fade c t T e
-run_time s at on c t T (kind.OnOffChanged false) e = go_to_time _ _ at on
-run_time s at on c t T (kind.Scene r) e = by r.level
+run_time s at on c t T (kind.Command (command.OnOffChanged true)) e = no_fade c t T e
+run_time s at on c t T (kind.Command (command.OnOffChanged false)) e = go_to_time _ _ at on
+run_time s at on c t T (kind.Command (command.Scene r)) e = by r.level
   where
     by : (l : Level) → (recalled_at l (accept s at) r at on).state.remaining_time ≡ s.remaining_time
-    by (Known level) = go_to_time _ _ at on
-    by Missing = refl
-run_time s at on c t T (kind.DeviceUpdate level) e = no_fade c t T e
-run_time s at on c t T kind.DeviceStop e = no_fade c t T e
-run_time s at on c t T (kind.SetOnLevel level) e = no_fade c t T e
-run_time s at on c t T (kind.SetDefaultMoveRate rate) e = no_fade c t T e
-run_time s at on c t T (kind.SetStartUpCurrentLevel level) e = no_fade c t T e
-run_time s at on c t T kind.FactoryReset e = no_fade c t T e
+    by (Some level) = go_to_time _ _ at on
+    by None = refl
+run_time s at on c t T (kind.Command (command.DeviceUpdate level)) e = no_fade c t T e
+run_time s at on c t T (kind.Command command.DeviceStop) e = no_fade c t T e
+run_time s at on c t T (kind.Command (command.SetOnLevel level)) e = no_fade c t T e
+run_time s at on c t T (kind.Command (command.SetDefaultMoveRate rate)) e = no_fade c t T e
+run_time s at on c t T (kind.Command (command.SetStartUpCurrentLevel level)) e = no_fade c t T e
+run_time s at on c t T (kind.Command command.FactoryReset) e = no_fade c t T e
 
-direct_time : (s : LevelControlState) (e : Event) (c t T : ℕ) → number_of s e ≡ 0 → start_of s e.on_off e.kind ≡ Fades c t T
+direct_time : (s : LevelControlState) (e : Event) (c t T : ℕ) → number_of s e ≡ 0 → start_of s e.moment.on_off e.kind ≡ Fades c t T
     → (event_of s e).state.remaining_time ≡ s.remaining_time
 unfolding accept
 direct_time s e c t T z named = by (stopped_in s e) refl
@@ -92,7 +93,7 @@ direct_time s e c t T z named = by (stopped_in s e) refl
     by true q = ap (λ (o : Outcome). o.state.remaining_time) (event_stopped s e z q)
     by false q =
         ap (λ (o : Outcome). o.state.remaining_time) (event_runs s e z q)
-        ∙ run_time s e.at e.on_off c t T e.kind named
+        ∙ run_time s e.moment.at e.moment.on_off c t T e.kind named
 
 -- the answer to the on reaction's request
 on_answer_time : (s : LevelControlState) (before : Level) (at : Micros) (on : Bool) (v : ℕ)
@@ -101,22 +102,22 @@ unfolding on_goes_on told_level set_level with_answered accept with_task
 on_answer_time s before at on v = by (level_or s.attributes.on_level before)
   where
     told : Told
-    told = told_level (accept s at) (Known v) at false
+    told = told_level (accept s at) (Some v) at false
 
     by : (l : Level) → (on_to l told at on).state.remaining_time ≡ s.remaining_time
-    by (Known l) = go_to_time _ _ at on
-    by Missing = refl
+    by (Some l) = go_to_time _ _ at on
+    by None = refl
 
 after_on_time : (s : LevelControlState) (at₀ : Micros) (on₀ : Bool) (k : EventKind) (es : List Event) (at : Micros) (on : Bool) (a : EventKind) (v : ℕ)
-    → accepted s (event at₀ on₀ k) ≡ true → k ≡ kind.OnOffChanged true → all_refused (event_of s (event at₀ on₀ k)).state es ≡ true
+    → accepted s (event at₀ on₀ k) ≡ true → k ≡ kind.Command (command.OnOffChanged true) → all_refused (event_of s (event at₀ on₀ k)).state es ≡ true
     → accepted (state_after (event_of s (event at₀ on₀ k)).state es) (event at on a) ≡ true → a ≡ kind.Answer (device.Level v)
     → (event_of (state_after (event_of s (event at₀ on₀ k)).state es) (event at on a)).state.remaining_time ≡ s.remaining_time
 unfolding accept with_task
 after_on_time s at₀ on₀ k es at on a v ok q refusals answered r =
-    let ok' : accepted s (event at₀ on₀ (kind.OnOffChanged true)) ≡ true = subst (λ (x : EventKind). accepted s (event at₀ on₀ x) ≡ true) q ok in
+    let ok' : accepted s (event at₀ on₀ (kind.Command (command.OnOffChanged true))) ≡ true = subst (λ (x : EventKind). accepted s (event at₀ on₀ x) ≡ true) q ok in
     let first : (event_of s (event at₀ on₀ k)).state ≡ reacting s at₀ =
     ap (λ (x : EventKind). (event_of s (event at₀ on₀ x)).state) q
-    ∙ ap (λ (o : Outcome). o.state) (on_is s at₀ on₀ (accepted_zero s (event at₀ on₀ (kind.OnOffChanged true)) ok')) in
+    ∙ ap (λ (o : Outcome). o.state) (on_is s at₀ on₀ (accepted_zero s (event at₀ on₀ (kind.Command (command.OnOffChanged true))) ok')) in
     let same : state_after (event_of s (event at₀ on₀ k)).state es ≡ reacting s at₀ = refused_stays _ es refusals ∙ first in
     let there : accepted (reacting s at₀) (event at on (kind.Answer (device.Level v))) ≡ true =
     subst (λ (x : EventKind). accepted (reacting s at₀) (event at on x) ≡ true) r
@@ -131,4 +132,4 @@ after_on_time s at₀ on₀ k es at on a v ok q refusals answered r =
 pub start_time : (o : Outcome) (c t T : ℕ) (w : Starts o c t T) → o.state.remaining_time ≡ (given_in w).remaining_time
 start_time _ _ _ _ (directly s e c t T ok named) = direct_time s e c t T (accepted_zero s e ok) named
 start_time _ _ _ _ (after_on s e a es v c t T ok q refusals answered r named) =
-    after_on_time s e.at e.on_off e.kind es a.at a.on_off a.kind v ok q refusals answered r
+    after_on_time s e.moment.at e.moment.on_off e.kind es a.moment.at a.moment.on_off a.kind v ok q refusals answered r

@@ -1,18 +1,14 @@
 -- What an event leaves of the task: no fade, the fade that ran before gone on, or the task as it was. Assumes nothing.
+use Rattle.std.specs.Prelude.{Option, Some, None, Result, Ok, Err, ℕ}
 use mathlib.Core.Bool.{Bool, true, false, cond}
 use mathlib.Core.Path.{◌≡◌, refl, ap}
 use Rattle.units.specs.declared.Micros.{Micros}
 use Rattle.units.specs.declared.Millis.{Millis}
 use Rattle.transitions.specs.Fade.{wait_or_ask}
 use Rattle.transitions.specs.Tasks.{fade_last, fade_next, fade_asking, fade_waiting, level_to_restore, next_move, at_limit}
-use Rattle.transitions.specs.declared.commands.MoveRate.{MoveRate}
-use Rattle.transitions.specs.declared.commands.MoveRate.TheVariants.{Goes, InvalidCommand}
 use Rattle.transitions.specs.declared.events.DeviceAnswer.{DeviceAnswer}
 use Rattle.transitions.specs.declared.events.DeviceAnswer.TheVariants as device
 use Rattle.transitions.specs.declared.events.MoveRequest.{MoveRequest}
-use Rattle.transitions.specs.declared.fade.Next.{Next}
-use Rattle.transitions.specs.declared.fade.Next.TheVariants.{Wait, Ask}
-use Rattle.transitions.specs.declared.tasks.AfterFade.{AfterFade}
 use Rattle.transitions.specs.declared.tasks.Fade.{Fade}
 use Rattle.transitions.specs.declared.tasks.Move.{Move}
 use Rattle.transitions.specs.declared.tasks.MoveCourse.{MoveCourse}
@@ -21,8 +17,7 @@ use Rattle.transitions.specs.declared.tasks.MoveStep.TheVariants as step
 use Rattle.transitions.specs.declared.tasks.OnReaction.{OnReaction}
 use Rattle.transitions.specs.declared.tasks.Task.{Task}
 use Rattle.transitions.specs.declared.tasks.Task.TheVariants as task
-use Rattle.transitions.specs.declared.types.Level.{Level}
-use Rattle.transitions.specs.declared.types.Level.TheVariants.{Known, Missing}
+use Rattle.transitions.specs.Types.{Level}
 use Rattle.level_control.specs.State.{with_task, with_level}
 use Rattle.level_control.specs.Answer.{Outcome}
 use Rattle.level_control.specs.Reports.{told_level}
@@ -31,8 +26,9 @@ use Rattle.level_control.specs.Moves.{move_by, move_goes_on, move_at, begin_move
 use Rattle.level_control.specs.Rest.{stored_start_up, start_up_answered}
 use Rattle.level_control.specs.Run.{with_level as has_level}
 use Rattle.level_theorems.specs.Covered.{SameFade}
-use Rattle.level_control.specs.declared.reports.Told.{Told}
+use Rattle.level_control.specs.Reports.{Told}
 use Rattle.level_control.specs.declared.state.LevelControlState.{LevelControlState}
+use Rattle.transitions.specs.declared.causes.Refusal.{Refusal}
 
 -- no fade, and no on reaction
 abbrev pub is_plain : Task → Bool
@@ -63,13 +59,13 @@ module _ (R : OnReaction → Type 0) (x : Task) (onward : Bool) where
   cond_goes true o p g h = g
   cond_goes false o p g h = h
 
-  ended_goes : (t : Told) (after : AfterFade) → To (fade_ended t after)
+  ended_goes : (t : Told) (after : Option ℕ) → To (fade_ended t after)
   unfolding fade_ended restored with_task with_level
   ended_goes t after = by (level_to_restore after t.state.attributes.on_level)
     where
       by : (l : Level) → To (fade_ended_by l t)
-      by (Known before) = plain task.Rest refl
-      by Missing = plain task.Rest refl
+      by (Some before) = plain task.Rest refl
+      by None = plain task.Rest refl
 
   pub move_goes : (t : Told) (m : MoveCourse) (at : Micros) (on : Bool) → To (move_goes_on t m at on)
   unfolding move_goes_on with_task
@@ -84,14 +80,14 @@ module _ (R : OnReaction → Type 0) (x : Task) (onward : Bool) where
   unfolding move_then with_task
   move_then_goes t m since at on = by (wait_or_ask since at m.course.period)
     where
-      by : (n : Next) → To (move_next n t m at on)
-      by (Wait until) = plain _ refl
-      by Ask = move_goes t m.course at on
+      by : (n : Option Micros) → To (move_next n t m at on)
+      by (Some until) = plain _ refl
+      by None = move_goes t m.course at on
 
   pub move_answered_goes : (s : LevelControlState) (m : Move) (since at : Micros) (on : Bool) (a : DeviceAnswer) → To (move_answered s m since at on a)
   unfolding move_answered move_transition move_missing device_failed with_task
   move_answered_goes s m since at on (device.Level level) =
-      cond_goes (move_ends s m.asked) _ _ (plain task.Rest refl) (move_then_goes (told_level s (Known level) at (move_ends s m.asked)) m since at on)
+      cond_goes (move_ends s m.asked) _ _ (plain task.Rest refl) (move_then_goes (told_level s (Some level) at (move_ends s m.asked)) m since at on)
   move_answered_goes s m since at on device.Missing = plain task.Rest refl
   move_answered_goes s m since at on device.Failed = plain task.Rest refl
 
@@ -101,15 +97,15 @@ module _ (R : OnReaction → Type 0) (x : Task) (onward : Bool) where
   start_up_answered_goes s device.Missing = plain task.Rest refl
   start_up_answered_goes s device.Failed = plain task.Rest refl
 
--- event 2
+-- the move command
 pub begin_move_goes : (R : OnReaction → Type 0) (onward : Bool) (s : LevelControlState) (r : MoveRequest) (at : Micros) (on : Bool) → Becomes R s.task onward (begin_move s r at on).state.task
 unfolding begin_move
 begin_move_goes R onward s r at on =
-    cond_goes R s.task onward (at_limit s.current_level r.mode s.settings.min_level s.settings.max_level) _ _ (stays refl) (by (rate_by s r))
+    cond_goes R s.task onward (at_limit s.current_level r.mode s.settings.range.min s.settings.range.max) _ _ (stays refl) (by (rate_by s r))
   where
-    by : (n : MoveRate) → Becomes R s.task onward (move_at n s r at on).state.task
-    by (Goes rate) = move_goes R s.task onward _ _ at on
-    by InvalidCommand = stays refl
+    by : (n : Result ℕ Refusal) → Becomes R s.task onward (move_at n s r at on).state.task
+    by (Ok rate) = move_goes R s.task onward _ _ at on
+    by (Err cause) = stays refl
 
 -- a fade's answer and its wake
 
@@ -125,9 +121,9 @@ goes_on_goes : (R : OnReaction → Type 0) (t : Told) (f : Fade) (since at : Mic
 unfolding fade_goes_on with_task
 goes_on_goes R t f since at = by (fade_next f since at)
   where
-    by : (n : Next) → Becomes R (task.Fade f) true (fade_then n t f at).state.task
-    by (Wait until) = further f _ refl refl (waiting f _ until) refl
-    by Ask = further f _ refl refl (asking f _ at) refl
+    by : (n : Option Micros) → Becomes R (task.Fade f) true (fade_then n t f at).state.task
+    by (Some until) = further f _ refl refl (waiting f _ until) refl
+    by None = further f _ refl refl (asking f _ at) refl
 
 pub fade_answered_goes : (R : OnReaction → Type 0) (s : LevelControlState) (f : Fade) (since at : Micros) (on : Bool) (a : DeviceAnswer)
     → Becomes R (task.Fade f) (has_level a) (fade_answered s f since at on a).state.task

@@ -2,7 +2,6 @@
 use mathlib.Core.Bool.{Bool, true, false, not, ◌||◌, false≢true}
 use mathlib.Core.Path.{◌≡◌, refl}
 use mathlib.Core.List.{[], ◌∷◌}
-use Rattle.transitions.specs.Events.{turn_of}
 use Rattle.transitions.specs.declared.events.EventKind.{EventKind}
 use Rattle.transitions.specs.declared.events.EventKind.TheVariants as kind
 use Rattle.transitions.proofs.Booleans.{and_first, and_second, and_both, or_second}
@@ -10,25 +9,14 @@ use Rattle.level_control.specs.Run.{accepted, next, is_onward, only_onward}
 use Rattle.level_theorems.specs.Uninterrupted.{is_answer_or_wake, at_rest}
 use Rattle.level_theorems.specs.FadeTheorems.{Uninterrupted}
 
-onward_is : (k : EventKind) → is_onward k ≡ true → is_answer_or_wake (turn_of k) ≡ true
+onward_is : (k : EventKind) → is_onward k ≡ true → is_answer_or_wake k ≡ true
 onward_is kind.StartUp h = absurd (false≢true h)
-onward_is (kind.MoveToLevel r) h = absurd (false≢true h)
-onward_is (kind.Move r) h = absurd (false≢true h)
-onward_is (kind.Step r) h = absurd (false≢true h)
-onward_is (kind.Stop r) h = absurd (false≢true h)
 onward_is (kind.Answer a) h = refl
 onward_is kind.Wake h = refl
-onward_is (kind.OnOffChanged value) h = absurd (false≢true h)
-onward_is (kind.Scene r) h = absurd (false≢true h)
-onward_is (kind.DeviceUpdate level) h = absurd (false≢true h)
-onward_is kind.DeviceStop h = absurd (false≢true h)
-onward_is (kind.SetOnLevel level) h = absurd (false≢true h)
-onward_is (kind.SetDefaultMoveRate rate) h = absurd (false≢true h)
-onward_is (kind.SetStartUpCurrentLevel level) h = absurd (false≢true h)
-onward_is kind.FactoryReset h = absurd (false≢true h)
+onward_is (kind.Command c) h = absurd (false≢true h)
 
 -- refused, or onward
-allowed : (b : Bool) (k : EventKind) → (b || is_onward k) ≡ true → (b || is_answer_or_wake (turn_of k)) ≡ true
+allowed : (b : Bool) (k : EventKind) → (b || is_onward k) ≡ true → (b || is_answer_or_wake k) ≡ true
 allowed true k h = refl
 allowed false k h = onward_is k h
 

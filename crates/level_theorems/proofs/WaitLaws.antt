@@ -1,4 +1,5 @@
 -- A W is given only with an answer to a request, and is not before that request. Assumes nothing.
+use Rattle.std.specs.Prelude.{Option, Some, None, Bool}
 use Prim.Native.Nat.{ℕ, ◌≤◌, ◌-◌, ◌*◌}
 use mathlib.Core.Bool.{Bool, true, false, cond}
 use mathlib.Core.Path.{◌≡◌, refl, sym, ap, subst, ◌∙◌}
@@ -9,11 +10,9 @@ use Rattle.units.specs.Units.{micros}
 use Rattle.units.specs.declared.Micros.{Micros}
 use Rattle.transitions.specs.Events.{action, act, act_if, act_coupled}
 use Rattle.transitions.specs.Matter.{changed}
-use Rattle.transitions.specs.declared.coupling.Coupling.{Coupling}
-use Rattle.transitions.specs.declared.coupling.Coupling.TheVariants.{Sent, NotSent}
-use Rattle.transitions.specs.declared.events.Action.{Action}
-use Rattle.transitions.specs.declared.events.ActionKind.{ActionKind}
-use Rattle.transitions.specs.declared.events.ActionKind.TheVariants.{D, P, S, C, L, R, W, E, K, X}
+use Rattle.transitions.specs.declared.actions.Action.{Action}
+use Rattle.transitions.specs.declared.actions.ActionKind.{ActionKind}
+use Rattle.transitions.specs.declared.actions.ActionKind.TheVariants.{D, P, S, C, L, R, W, E, K, X}
 use Rattle.transitions.specs.declared.events.DeviceAnswer.{DeviceAnswer}
 use Rattle.transitions.specs.declared.events.DeviceAnswer.TheVariants as device
 use Rattle.transitions.specs.declared.events.EventKind.{EventKind}
@@ -25,8 +24,7 @@ use Rattle.transitions.specs.declared.tasks.Phase.{Phase}
 use Rattle.transitions.specs.declared.tasks.Phase.TheVariants.{Asked, Waiting}
 use Rattle.transitions.specs.declared.tasks.Task.{Task}
 use Rattle.transitions.specs.declared.tasks.Task.TheVariants as task
-use Rattle.transitions.specs.declared.types.Level.{Level}
-use Rattle.transitions.specs.declared.types.Level.TheVariants.{Known, Missing}
+use Rattle.transitions.specs.Types.{Level}
 use Rattle.transitions.specs.declared.types.Mode.{Mode}
 use Rattle.transitions.specs.declared.types.Mode.TheVariants.{Up, Down}
 use Rattle.level_control.specs.Answer.{Outcome}
@@ -40,7 +38,8 @@ use Rattle.event_theorems.specs.Fields.{level_told, next_state}
 use Rattle.event_theorems.specs.Letters.{back_letters, changes, couples_first, couples_last, letters, notices, reports_level, reports_time, setting_letter}
 use Rattle.event_theorems.proofs.AnswerLaws.{at_task}
 use Rattle.event_theorems.proofs.RunLaws.{gives}
-use Rattle.level_theorems.specs.Demand1.{InPhase}
+use Rattle.level_theorems.specs.EveryEvent.{InPhase}
+use Rattle.transitions.specs.declared.events.Command.TheVariants as command
 
 -- the times of the waits in a list of actions
 
@@ -85,13 +84,13 @@ if_free : (b : Bool) (k : ActionKind) → is_wait k ≡ false → waits_in (act_
 if_free true k e = rw e refl
 if_free false k e = refl
 
-coupled_free : (c : Coupling) → waits_in (act_coupled c) ≡ []
-coupled_free (Sent wanted) = refl
-coupled_free NotSent = refl
+coupled_free : (c : Option Bool) → waits_in (act_coupled c) ≡ []
+coupled_free (Some wanted) = refl
+coupled_free None = refl
 
 back_free : (l told : Level) → waits_in (back_letters l told) ≡ []
-back_free (Known before) told = let b = changed told (Known before) in no_more (act_if b P) (act L 0) (if_free b P refl)
-back_free Missing told = refl
+back_free (Some before) told = let b = changed told (Some before) in no_more (act_if b P) (act L 0) (if_free b P refl)
+back_free None told = refl
 
 setting_free : (b : Brings) → waits_in (setting_letter b) ≡ []
 setting_free (Runs c) = refl
@@ -127,19 +126,19 @@ calm_cond true x y p q = p
 calm_cond false x y p q = q
 
 step_calm : (m : MoveCourse) (mode : Mode) (l : Level) (at : Micros) → waits_in (course_letter (course.step m mode l at)) ≡ []
-step_calm m Up (Known c) at = calm_cond (ltb c 255) _ _ refl refl
-step_calm m Down (Known c) at = calm_cond (ltb 0 c) _ _ refl refl
-step_calm m Up Missing at = refl
-step_calm m Down Missing at = refl
+step_calm m Up (Some c) at = calm_cond (ltb c 255) _ _ refl refl
+step_calm m Down (Some c) at = calm_cond (ltb 0 c) _ _ refl refl
+step_calm m Up None at = refl
+step_calm m Down None at = refl
 
 towards_calm : (l : Level) (t T : ℕ) (with_on_off scene restores : Bool) (at : Micros) → waits_in (course_letter (towards l t T with_on_off scene restores at)) ≡ []
-towards_calm (Known c) t T with_on_off scene restores at = calm_cond (eqb c t) _ _ refl refl
-towards_calm Missing t T with_on_off scene restores at = refl
+towards_calm (Some c) t T with_on_off scene restores at = calm_cond (eqb c t) _ _ refl refl
+towards_calm None t T with_on_off scene restores at = refl
 
 start_up_calm : (l c : Level) (s : LevelControlState) → waits_in (course_letter (course.start_up l c s)) ≡ []
-start_up_calm (Known level) c s = refl
-start_up_calm Missing (Known level) s = refl
-start_up_calm Missing Missing s = refl
+start_up_calm (Some level) c s = refl
+start_up_calm None (Some level) s = refl
+start_up_calm None None s = refl
 
 wake_calm : (x : Task) (s : LevelControlState) (at : Micros) → waits_in (course_letter (course.wake x s at)) ≡ []
 wake_calm task.Rest s at = refl
@@ -157,9 +156,9 @@ command_calm s bring.On at = refl
 command_calm s bring.Wake at = wake_calm s.task s at
 
 on_calm : (l before : Level) (v : ℕ) (s : LevelControlState) (at : Micros) → waits_in (course_letter (course.on_towards l before v s at)) ≡ []
-on_calm (Known level) before v s at = towards_calm (Known v) _ _ true false false at
-on_calm Missing (Known level) v s at = towards_calm (Known v) _ _ true false false at
-on_calm Missing Missing v s at = refl
+on_calm (Some level) before v s at = towards_calm (Some v) _ _ true false false at
+on_calm None (Some level) v s at = towards_calm (Some v) _ _ true false false at
+on_calm None None v s at = refl
 
 module _ (s : LevelControlState) (at : Micros) where
   fade_waits : (f : Fade) (v : ℕ) (b : Bool) (p : Phase) → f.phase ≡ p
@@ -179,7 +178,7 @@ module _ (s : LevelControlState) (at : Micros) where
   fade_waits f v false (Waiting until) e = calm course.AsItWas refl
 
   move_waits : (m : Move) (v : ℕ) (b : Bool) (p : Phase) → m.phase ≡ p
-      → CourseWaits (at_task s (task.Move m)) (kind.Answer (device.Level v)) (cond b course.AtRest (course.move_on m p (Known v) at))
+      → CourseWaits (at_task s (task.Move m)) (kind.Answer (device.Level v)) (cond b course.AtRest (course.move_on m p (Some v) at))
   move_waits m v true p e = calm course.AtRest refl
   move_waits m v false (Asked since) e = by (leb (at.0 - since.0) m.course.period.0)
     where
@@ -189,9 +188,9 @@ module _ (s : LevelControlState) (at : Micros) where
       by : (w : Bool)
           → CourseWaits (at_task s (task.Move m)) (kind.Answer (device.Level v))
           (cond w (course.Waits u (task.Move (record { course = m.course; asked = m.asked; phase = Waiting (micros u) })))
-          (course.step m.course m.course.mode (Known v) at))
+          (course.step m.course m.course.mode (Some v) at))
       by true = waiting v since u _ refl e (λ h. omega arith) refl
-      by false = calm _ (step_calm m.course m.course.mode (Known v) at)
+      by false = calm _ (step_calm m.course m.course.mode (Some v) at)
   move_waits m v false (Waiting until) e = calm course.AsItWas refl
 
   answer_waits : (x : Task) (a : DeviceAnswer) → CourseWaits (at_task s x) (kind.Answer a) (course.answer_course x (at_task s x) a at)
@@ -210,20 +209,20 @@ module _ (s : LevelControlState) (at : Micros) where
   course_waits : (k : EventKind) → CourseWaits s k (course.course s (brings s k) at)
   unfolding course.course
   course_waits kind.StartUp = calm _ (command_calm s bring.StartUp at)
-  course_waits (kind.MoveToLevel r) = calm _ (towards_calm s.current_level (target s r.level) (given_or r.transition_time 0) r.with_on_off false false at)
-  course_waits (kind.Move r) = calm _ (command_calm s (bring.Move r) at)
-  course_waits (kind.Step r) = calm _ (command_calm s (step_target s.current_level s r) at)
-  course_waits (kind.Stop r) = calm course.AtRest refl
+  course_waits (kind.Command (command.MoveToLevel r)) = calm _ (towards_calm s.current_level (target s r.level) (given_or r.transition_time 0) r.options.with_on_off false false at)
+  course_waits (kind.Command (command.Move r)) = calm _ (command_calm s (bring.Move r) at)
+  course_waits (kind.Command (command.Step r)) = calm _ (command_calm s (step_target s.current_level s r) at)
+  course_waits (kind.Command (command.Stop r)) = calm course.AtRest refl
   course_waits (kind.Answer a) = answer_waits s.task a
   course_waits kind.Wake = calm _ (command_calm s bring.Wake at)
-  course_waits (kind.OnOffChanged value) = calm _ (command_calm s (turned value s) at)
-  course_waits (kind.Scene r) = calm _ (command_calm s (scene_target r.level s r.transition_time.0) at)
-  course_waits (kind.DeviceUpdate level) = calm course.AtRest refl
-  course_waits kind.DeviceStop = calm course.AtRest refl
-  course_waits (kind.SetOnLevel level) = calm course.AsItWas refl
-  course_waits (kind.SetDefaultMoveRate rate) = calm course.AsItWas refl
-  course_waits (kind.SetStartUpCurrentLevel level) = calm course.AsItWas refl
-  course_waits kind.FactoryReset = calm course.AtRest refl
+  course_waits (kind.Command (command.OnOffChanged value)) = calm _ (command_calm s (turned value s) at)
+  course_waits (kind.Command (command.Scene r)) = calm _ (command_calm s (scene_target r.level s r.transition_time.0) at)
+  course_waits (kind.Command (command.DeviceUpdate level)) = calm course.AtRest refl
+  course_waits (kind.Command command.DeviceStop) = calm course.AtRest refl
+  course_waits (kind.Command (command.SetOnLevel level)) = calm course.AsItWas refl
+  course_waits (kind.Command (command.SetDefaultMoveRate rate)) = calm course.AsItWas refl
+  course_waits (kind.Command (command.SetStartUpCurrentLevel level)) = calm course.AsItWas refl
+  course_waits (kind.Command command.FactoryReset) = calm course.AtRest refl
 
 pub gives_waited : (s : LevelControlState) (k : EventKind) (at : Micros) (on : Bool) → Waited s k (gives s (brings s k) at on)
 unfolding next_state

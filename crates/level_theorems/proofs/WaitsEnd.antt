@@ -1,4 +1,5 @@
 -- When the events of a fade come: no wait is longer than the period. Assumes nothing.
+use Rattle.std.specs.Prelude.{Option, Some, None, ℕ}
 use Prim.Native.Nat.{ℕ, suc, ◌+◌, ◌*◌, ◌/◌, ◌≤◌, max}
 use mathlib.Core.Bool.{Bool, true, false, cond, not, ◌||◌, false≢true}
 use mathlib.Core.Path.{◌≡◌, refl, sym, ap, subst, ◌∙◌}
@@ -15,15 +16,12 @@ use Rattle.transitions.specs.Tasks.{task_open, phase_open, fade_last, fade_from,
 use Rattle.transitions.specs.declared.events.DeviceAnswer.TheVariants as device
 use Rattle.transitions.specs.declared.events.Event.{Event}
 use Rattle.transitions.specs.declared.events.EventKind.TheVariants as kind
-use Rattle.transitions.specs.declared.fade.Next.TheVariants as next
-use Rattle.transitions.specs.declared.tasks.AfterFade.{AfterFade}
 use Rattle.transitions.specs.declared.tasks.Fade.{Fade}
 use Rattle.transitions.specs.declared.tasks.Phase.{Phase}
 use Rattle.transitions.specs.declared.tasks.Phase.TheVariants.{Asked, Waiting}
 use Rattle.transitions.specs.declared.tasks.Task.{Task}
 use Rattle.transitions.specs.declared.tasks.Task.TheVariants as task
-use Rattle.transitions.specs.declared.types.Level.{Level}
-use Rattle.transitions.specs.declared.types.Level.TheVariants.{Known, Missing}
+use Rattle.transitions.specs.Types.{Level}
 use Rattle.level_control.specs.State.{accept, with_task, with_level, with_remaining_time, with_answered}
 use Rattle.level_control.specs.Answer.{Outcome}
 use Rattle.level_control.specs.Reports.{write_remaining_time, set_level}
@@ -34,7 +32,7 @@ use Rattle.level_control.specs.Run.{Run, accepted, is_onward, started, next as n
 use Rattle.level_control.specs.Starts.{distance}
 use Rattle.level_theorems.specs.Replies.{Reply, wake_in, wake_of, replies, answers_from, in_time, delays}
 use Rattle.level_theorems.specs.FadeTheorems.{WaitsEnd}
-use Rattle.level_control.specs.declared.reports.Told.{Told}
+use Rattle.level_control.specs.Reports.{Told}
 use Rattle.level_control.specs.declared.state.LevelControlState.{LevelControlState}
 use Rattle.transitions.proofs.Booleans.{and_both, or_second}
 use Rattle.level_control.proofs.FadeInvariant.{Inv, Kept, answer_is, wake_is, keep}
@@ -59,19 +57,19 @@ Timed (task.OnReaction r) last = Unit {0}
 abbrev pub Comes : Micros → LevelControlState → Type 0
 Comes at s = (s.last_accepted ≡ at) × Timed s.task at.0
 
-ended_comes : (t : Told) (after : AfterFade) (at : Micros) → t.state.last_accepted ≡ at → Comes at (fade_ended t after).state
+ended_comes : (t : Told) (after : Option ℕ) (at : Micros) → t.state.last_accepted ≡ at → Comes at (fade_ended t after).state
 unfolding fade_ended restored with_task with_level
 ended_comes t after at q = by (level_to_restore after t.state.attributes.on_level)
   where
     by : (l : Level) → Comes at (fade_ended_by l t).state
-    by (Known before) = (q, tt)
-    by Missing = (q, tt)
+    by (Some before) = (q, tt)
+    by None = (q, tt)
 
 goes_on_comes : (t : Told) (f : Fade) (since at : Micros) → since.0 ≤ at.0 → t.state.last_accepted ≡ at → Comes at (fade_goes_on t f since at).state
 unfolding fade_goes_on wait_or_ask fade_waiting fade_asking with_task
 goes_on_comes t f since at le q = by (at_most (elapsed since at) (millis_to_micros f.period))
   where
-    by : (b : Bool) → Comes at (fade_then (cond b (next.Wait (later since (millis_to_micros f.period))) next.Ask) t f at).state
+    by : (b : Bool) → Comes at (fade_then (cond b (Some (later since (millis_to_micros f.period))) None) t f at).state
     by true = (q, omega arith)
     by false = (q, omega arith)
 
@@ -144,14 +142,14 @@ module _ (c t T : ℕ) (pos : 1 ≤ T) (small : T ≤ 65535) where
       by : (y : Phase) → f.phase ≡ y → phase_open y ≡ true → TimedIn y f.period.0 r.state.last_accepted.0 → in_time (answered r p ps) ≡ true
       by (Asked since) z o w =
           let e : Event = replies r.state p in
-          let soon : e.at.0 ≤ latest.0 = omega arith in
-          let low : r.state.last_accepted.0 ≤ e.at.0 = omega arith in
-          let ok : accepted r.state e ≡ true = answers_accepted r.state (device.Level p.level) e.at p.on (ap task_open q ∙ ap phase_open z) low soon in
+          let soon : e.moment.at.0 ≤ latest.0 = omega arith in
+          let low : r.state.last_accepted.0 ≤ e.moment.at.0 = omega arith in
+          let ok : accepted r.state e ≡ true = answers_accepted r.state (device.Level p.level) e.moment.at p.on (ap task_open q ∙ ap phase_open z) low soon in
           let count : (next_run r e).answers ≡ r.answers + 1 = next_answers r e ok in
           let on : (not (accepted r.state e) || is_onward e.kind) ≡ true = or_second (not (accepted r.state e)) true refl in
-          let comes : Comes e.at (next_run r e).state = answer_run r f since e.at p.on p.level q z (omega arith) ok in
-          let clock : (next_run r e).state.last_accepted.0 ≡ e.at.0 = ap (λ (x : Micros). x.0) comes.0 in
-          and_both _ _ (le-leb e.at.0 latest.0 soon)
+          let comes : Comes e.moment.at (next_run r e).state = answer_run r f since e.moment.at p.on p.level q z (omega arith) ok in
+          let clock : (next_run r e).state.last_accepted.0 ≡ e.moment.at.0 = ap (λ (x : Micros). x.0) comes.0 in
+          and_both _ _ (le-leb e.moment.at.0 latest.0 soon)
           (goal (next_run r e) (keep c t T pos small r e on h)
           (subst (λ (x : ℕ). Timed (next_run r e).state.task x) (sym clock) comes.1) (omega arith) (omega arith))
       by (Waiting until) z o w = absurd (false≢true o)

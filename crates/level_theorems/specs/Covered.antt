@@ -1,4 +1,4 @@
--- What an accepted event does to fades: the cases of `EveryFadeCovered`.
+-- Every fade, what goes with the claim: what an accepted event does to fades, the cases of `EveryFadeCovered`.
 use Rattle.std.specs.Prelude.{ℕ, true, ◌≡◌}
 use Rattle.units.specs.declared.Micros.{Micros}
 use Rattle.transitions.specs.Tasks.{fade_from}
@@ -20,9 +20,9 @@ pub record Begins (c t T : ℕ) (at : Micros) (s : LevelControlState) : Type 0 w
   pub time : request.transition_time.0 ≡ T
   pub begins : s.task ≡ task.Fade (fade_from c request at)
 
--- parts 6, 9 and 10 name no fade
+-- the table of starts names no fade
 pub record NoneNamed (s : LevelControlState) (e : Event) : Type 0 where
-  pub direct : start_of s e.on_off e.kind ≡ NoFade
+  pub direct : start_of s e.moment.on_off e.kind ≡ NoFade
   pub on : (r : OnReaction) (v : ℕ) → s.task ≡ task.OnReaction r → e.kind ≡ kind.Answer (device.Level v)
       → on_start_at s.attributes.on_level r.before s v ≡ NoFade
 
@@ -37,9 +37,9 @@ pub record SameFade (f g : Fade) : Type 0 where
 
 -- an accepted event in a state, and the state after it
 pub data Covered (s : LevelControlState) (e : Event) (s' : LevelControlState) : Type 0 where
-  starts : (c t T : ℕ) → start_of s e.on_off e.kind ≡ Fades c t T → Begins c t T e.at s' → Covered s e s'
+  starts : (c t T : ℕ) → start_of s e.moment.on_off e.kind ≡ Fades c t T → Begins c t T e.moment.at s' → Covered s e s'
   starts_on : (r : OnReaction) (v c t T : ℕ) → s.task ≡ task.OnReaction r → e.kind ≡ kind.Answer (device.Level v)
-      → on_start_at s.attributes.on_level r.before s v ≡ Fades c t T → Begins c t T e.at s' → Covered s e s'
+      → on_start_at s.attributes.on_level r.before s v ≡ Fades c t T → Begins c t T e.moment.at s' → Covered s e s'
   no_fade : NoneNamed s e → ((f : Fade) → s'.task ≡ task.Fade f → ⊥) → Covered s e s'
   goes_on : NoneNamed s e → (f g : Fade) → s.task ≡ task.Fade f → s'.task ≡ task.Fade g → SameFade f g → is_onward e.kind ≡ true → Covered s e s'
   as_it_was : NoneNamed s e → (f : Fade) → s.task ≡ task.Fade f → s'.task ≡ task.Fade f → Covered s e s'

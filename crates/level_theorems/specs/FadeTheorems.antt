@@ -1,4 +1,4 @@
--- What goes with demand 3: the path is what its name says, no fade is left out, every fade can come to its end, the remaining time is exact.
+-- What goes with Every fade: the path is what its name says, no fade is left out, every fade can come to its end, the remaining time is exact.
 use Rattle.std.specs.Prelude.{ℕ, ◌+◌, ◌-◌, ◌*◌, ◌/◌, ◌≤◌, ◌<◌, Bool, true, ◌≡◌, List, length, get_or}
 use Rattle.units.specs.declared.Micros.{Micros}
 use Rattle.transitions.specs.Events.{event}
@@ -15,12 +15,13 @@ use Rattle.level_control.specs.Events.{event_of}
 use Rattle.level_control.specs.Path.{path}
 use Rattle.level_control.specs.Run.{Run, accepted, started, play, only_onward}
 use Rattle.level_control.specs.Starts.{distance}
-use Rattle.level_control.specs.Demand3.{Starts, directly, after_on}
-use Rattle.level_theorems.specs.Demand1.{InPhase}
+use Rattle.level_control.specs.EveryFade.{Starts, directly, after_on}
+use Rattle.level_theorems.specs.EveryEvent.{InPhase}
 use Rattle.level_theorems.specs.Covered.{Covered}
 use Rattle.level_theorems.specs.Replies.{Reply, answers_from, in_time, delays, Ends}
 use Rattle.level_theorems.specs.Uninterrupted.{uninterrupted, open_of}
 use Rattle.level_control.specs.declared.state.LevelControlState.{LevelControlState}
+use Rattle.transitions.specs.declared.events.Command.TheVariants as command
 
 -- The path.
 
@@ -36,17 +37,17 @@ PathIs = (c t : ℕ) → Leads c t
 
 -- No fade is left out.
 
--- Every accepted event starts the fade that parts 6, 9 and 10 name; where they name none, no fade runs after it but the one that ran before, gone on by an
--- answer with a level or a wake, or left as it was.
+-- Every accepted event starts the fade that the table of starts names; where it names none, no fade runs after the event but the one that ran before,
+-- gone on by an answer with a level or a wake, or left as it was.
 abbrev pub EveryFadeCovered : Type 0
 EveryFadeCovered = (s : LevelControlState) (e : Event) → accepted s e ≡ true → Covered s e (event_of s e).state
 
--- An on reaction comes only from event 7 (on), and keeps the level that it found: so after refused events, which leave the state as it was, the fade that its
--- answer starts is the one that `on_start` names in the state of event 7.
+-- An on reaction comes only from on, and keeps the level that it found: so after refused events, which leave the state as it was, the fade that its
+-- answer starts is the one that `on_start` names in the state of on.
 abbrev pub ReactionsCovered : Type 0
 ReactionsCovered =
     (s : LevelControlState) (e : Event) (r : OnReaction) → accepted s e ≡ true → (event_of s e).state.task ≡ task.OnReaction r
-    → (e.kind ≡ kind.OnOffChanged true) × (r.before ≡ s.current_level)
+    → (e.kind ≡ kind.Command (command.OnOffChanged true)) × (r.before ≡ s.current_level)
 
 -- Progress.
 
@@ -81,7 +82,7 @@ WaitsEnd =
 
 -- The exact key.
 
--- the state in which event 1, 3, 7 or 8 was given. After 7 (on) the fade starts in the answer; neither event 7 nor that answer writes the remaining time
+-- the state in which the move to level, step, off, scene or on was given. After on the fade starts in the answer; neither on nor that answer writes the remaining time
 abbrev pub given_in : {o : Outcome} {c t T : ℕ} → Starts o c t T → LevelControlState
 given_in (directly s e c t T ok named) = s
 given_in (after_on s e a es v c t T ok on refusals answered level named) = s
@@ -91,7 +92,8 @@ pub record Key (s : LevelControlState) (c t T : ℕ) (r : Run) : Type 0 where
   pub exact : 1 ≤ r.answers → r.answers < distance t c
       → r.state.remaining_time.0 ≡ (100 * T - r.answers * (100 * T / distance t c) + 99) / 100
 
--- Of a fade of at least 1 tenth: with k answers accepted, 1 ≤ k < n, the remaining time shown is ⌈(100·T − k·⌊100·T/n⌋)/100⌉; before the first answer it is what was shown before the fade.
+-- Of a fade of at least 1 tenth: with k answers accepted, 1 ≤ k < n, the remaining time shown is ⌈(100·T − k·⌊100·T ÷ n⌋) ÷ 100⌉; before the first
+-- answer it is what was shown before the fade.
 abbrev pub ExactKey : Type 0
 ExactKey =
     (o : Outcome) (c t T : ℕ) (es : List Event)

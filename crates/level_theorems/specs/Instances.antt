@@ -1,5 +1,5 @@
--- Demand 3 is not empty: one played fade for each of the five starts, each with refused events, a late answer and a device that answers other levels.
-use Rattle.std.specs.Prelude.{ℕ, true, false, ◌≡◌, List, [], ◌∷◌, take}
+-- The claim of Every fade is not empty: a played fade for each of the five starts, each with refused events, a late answer and a device that answers other levels.
+use Rattle.std.specs.Prelude.{ℕ, true, false, ◌≡◌, List, [], ◌∷◌, take, Some, None}
 use Rattle.units.specs.Units.{tenths, millis, micros}
 use Rattle.transitions.specs.Events.{event}
 use Rattle.transitions.specs.declared.events.DeviceAnswer.TheVariants as device
@@ -7,35 +7,32 @@ use Rattle.transitions.specs.declared.events.Event.{Event}
 use Rattle.transitions.specs.declared.events.EventKind.{EventKind}
 use Rattle.transitions.specs.declared.events.EventKind.TheVariants as kind
 use Rattle.transitions.specs.declared.settings.Settings.{Settings}
-use Rattle.transitions.specs.declared.types.Level.TheVariants.{Known, Missing}
 use Rattle.transitions.specs.declared.types.Mode.TheVariants.{Up}
-use Rattle.transitions.specs.declared.types.Rate.TheVariants as rate
-use Rattle.transitions.specs.declared.types.Time.TheVariants as time
 use Rattle.level_control.specs.State.{new_state}
 use Rattle.level_control.specs.Answer.{Outcome}
 use Rattle.level_control.specs.Events.{event_of}
 use Rattle.level_control.specs.Run.{Request, started, play, only_onward, state_after}
-use Rattle.level_control.specs.Demand3.{Starts, Shown}
+use Rattle.level_control.specs.EveryFade.{Starts, Shown}
 use Rattle.level_theorems.specs.Replies.{Reply, answers_from, Ends}
 use Rattle.level_control.specs.declared.state.LevelControlState.{LevelControlState}
+use Rattle.transitions.specs.declared.events.Command.TheVariants as command
 
 -- MIN 1, MAX 254, uncoupled; on level 5; on and off in 3 tenths
 abbrev pub lamp : ℕ → Settings
 lamp level = record {
-  min_level = 1;
-  max_level = 254;
+  range = record { min = 1; max = 254 };
   coupled = false;
   fastest_rate = 50;
   lighting = false;
-  current_level = Known level;
+  current_level = Some level;
   attributes = record {
-    on_level = Known 5;
+    on_level = Some 5;
     options = record { 0 = 0 };
     on_off_transition_time = tenths 0;
-    on_transition_time = time.Known (tenths 3);
-    off_transition_time = time.Known (tenths 3);
-    default_move_rate = rate.Missing;
-    start_up_current_level = Missing;
+    on_transition_time = Some (tenths 3);
+    off_transition_time = Some (tenths 3);
+    default_move_rate = None;
+    start_up_current_level = None;
   };
 }
 
@@ -50,36 +47,32 @@ answers v = kind.Answer (device.Level v)
 abbrev pub move_to13 : Event
 move_to13 =
     at 2000000
-    (kind.MoveToLevel (record {
-      with_on_off = false;
+    (kind.Command (command.MoveToLevel (record {
+      options = record { with_on_off = false; options_mask = record { 0 = 0 }; options_override = record { 0 = 0 } };
       level = 13;
-      transition_time = time.Known (tenths 3);
-      options_mask = record { 0 = 0 };
-      options_override = record { 0 = 0 };
-    }))
+      transition_time = Some (tenths 3);
+    })))
 
 abbrev pub step_by3 : Event
 step_by3 =
     at 2000000
-    (kind.Step (record {
-      with_on_off = false;
+    (kind.Command (command.Step (record {
+      options = record { with_on_off = false; options_mask = record { 0 = 0 }; options_override = record { 0 = 0 } };
       mode = Up;
       step_size = 3;
-      transition_time = time.Known (tenths 3);
-      options_mask = record { 0 = 0 };
-      options_override = record { 0 = 0 };
-    }))
+      transition_time = Some (tenths 3);
+    })))
 
 abbrev pub off : Event
-off = at 2000000 (kind.OnOffChanged false)
+off = at 2000000 (kind.Command (command.OnOffChanged false))
 
 abbrev pub scene_of13 : Event
-scene_of13 = at 2000000 (kind.Scene (record { level = Known 13; transition_time = millis 399 }))
+scene_of13 = at 2000000 (kind.Command (command.Scene (record { level = Some 13; transition_time = millis 399 })))
 
--- event 7 (on) asks for MIN; a wake is refused; the device answers 2
+-- on asks for MIN; a wake is refused; the device answers 2
 
 abbrev pub on : Event
-on = at 1000000 (kind.OnOffChanged true)
+on = at 1000000 (kind.Command (command.OnOffChanged true))
 
 abbrev pub between : List Event
 between = at 1500000 kind.Wake ∷ []
@@ -91,7 +84,7 @@ answer2 = at 2000000 (answers 2)
 
 abbrev pub follows : List Event
 follows =
-    at 2050000 (kind.SetOnLevel Missing)
+    at 2050000 (kind.Command (command.SetOnLevel None))
     ∷ at 2150000 (answers 40)
     ∷ at 2200000 (answers 7)
     ∷ at 2200001 kind.Wake

@@ -1,31 +1,30 @@
--- The questions of document 01 whose keys are proved, in one table: a question, put to the definitions that the contracts cite, and its key.
-use Rattle.std.specs.Prelude.{ℕ, zero, suc, Bool, true, false, ◌&&◌, ◌||◌, ◌≡◌, List, [], ◌∷◌, ◌++◌, eqb, length}
+-- Keys: the twelve questions in one table: a question, put to the definitions that the contracts cite, and its key.
+use Rattle.std.specs.Prelude.{ℕ, zero, suc, Bool, true, false, ◌&&◌, ◌||◌, ◌≡◌, List, [], ◌∷◌, ◌++◌, eqb, length, Some, None, Result, Ok, Err}
 use Rattle.units.specs.Numbers.{apart}
 use Rattle.units.specs.Units.{tenths, millis, micros, tenths_up, tenths_down}
 use Rattle.transitions.specs.RemainingTime.{remaining_time_due}
 use Rattle.transitions.specs.CurrentLevel.{second, current_level_due}
-use Rattle.transitions.specs.Commands.{step_level, step_time, step_time_number}
+use Rattle.transitions.specs.Causes.{refusal_number}
+use Rattle.transitions.specs.Commands.{step_level, step_time}
 use Rattle.transitions.specs.Fade.{fade_period}
 use Rattle.transitions.specs.Moves.{move_period}
 use Rattle.transitions.specs.Events.{event, action, act}
-use Rattle.transitions.specs.declared.events.Action.{Action}
-use Rattle.transitions.specs.declared.events.ActionKind.TheVariants.{D, P, S, L, E}
+use Rattle.transitions.specs.declared.actions.Action.{Action}
+use Rattle.transitions.specs.declared.actions.ActionKind.TheVariants.{D, P, S, L, E}
 use Rattle.transitions.specs.declared.events.DeviceAnswer.TheVariants as device
 use Rattle.transitions.specs.declared.events.Event.{Event}
 use Rattle.transitions.specs.declared.events.EventKind.{EventKind}
 use Rattle.transitions.specs.declared.events.EventKind.TheVariants as kind
 use Rattle.transitions.specs.declared.settings.Settings.{Settings}
-use Rattle.transitions.specs.declared.types.Level.{Level}
-use Rattle.transitions.specs.declared.types.Level.TheVariants.{Known, Missing}
-use Rattle.transitions.specs.declared.types.Rate.TheVariants as rate
+use Rattle.transitions.specs.Types.{Level}
 use Rattle.transitions.specs.declared.types.Mode.TheVariants.{Up}
-use Rattle.transitions.specs.declared.types.Time.TheVariants as time
-use Rattle.transitions.specs.declared.commands.StepTime.{StepTime}
-use Rattle.transitions.specs.declared.commands.StepTime.TheVariants.{Takes, Overflow}
 use Rattle.level_control.specs.State.{new_state}
 use Rattle.level_control.specs.Events.{event_of}
 use Rattle.level_control.specs.Run.{asks}
 use Rattle.level_control.specs.declared.state.LevelControlState.{LevelControlState}
+use Rattle.units.specs.declared.Tenths.{Tenths}
+use Rattle.transitions.specs.declared.causes.Refusal.{Refusal}
+use Rattle.transitions.specs.declared.events.Command.TheVariants as command
 
 pub data Question : Type 0 where
   -- how many tenths some milliseconds are
@@ -53,9 +52,9 @@ pub data Key : Type 0 where
   Number : ℕ → Key
   Given : List (List Action) → Key
 
-abbrev pub step_key : StepTime → Key
-step_key (Takes t) = Count t.0
-step_key Overflow = Number (step_time_number Overflow)
+abbrev pub step_key : Result Tenths Refusal → Key
+step_key (Ok t) = Count t.0
+step_key (Err cause) = Number (refusal_number cause)
 
 -- the actions of each event of a list, from a state on
 abbrev pub actions_from : LevelControlState → List Event → List (List Action)
@@ -73,9 +72,9 @@ answer_to (TenthsOf ms) = Count (tenths_up (millis ms)).0
 answer_to (RemainingTimeReport old new start) = Report (remaining_time_due (tenths old) (tenths new) start)
 answer_to (FadePeriod time n) = Count (fade_period (tenths time) n).0
 answer_to (StepUp level size hi given) =
-    step_key (step_time (time.Known (tenths given)) (apart (step_level Up level size 1 hi) level) size)
+    step_key (step_time (Some (tenths given)) (apart (step_level Up level size 1 hi) level) size)
 answer_to (MovePeriod rate) = Count (move_period rate).0
-answer_to (LevelReport passed) = Report (current_level_due second (micros 0) (micros passed) false (Known 10) (Known 11))
+answer_to (LevelReport passed) = Report (current_level_due second (micros 0) (micros passed) false (Some 10) (Some 11))
 answer_to (SceneTime ms) = Count (tenths_down (millis ms)).0
 answer_to (Requests settings es) = Count (length (asks_of (actions_from (new_state settings) es)))
 answer_to (Actions settings es) = Given (actions_from (new_state settings) es)
@@ -83,20 +82,19 @@ answer_to (Actions settings es) = Given (actions_from (new_state settings) es)
 -- MIN 1, MAX 254, uncoupled, nothing known but the level
 abbrev pub plain : Level → Settings
 plain level = record {
-  min_level = 1;
-  max_level = 254;
+  range = record { min = 1; max = 254 };
   coupled = false;
   fastest_rate = 50;
   lighting = false;
   current_level = level;
   attributes = record {
-    on_level = Missing;
+    on_level = None;
     options = record { 0 = 0 };
     on_off_transition_time = tenths 0;
-    on_transition_time = time.Missing;
-    off_transition_time = time.Missing;
-    default_move_rate = rate.Missing;
-    start_up_current_level = Missing;
+    on_transition_time = None;
+    off_transition_time = None;
+    default_move_rate = None;
+    start_up_current_level = None;
   };
 }
 
@@ -107,22 +105,20 @@ abbrev pub answers : ℕ → ℕ → Event
 answers now level = at now (kind.Answer (device.Level level))
 
 abbrev pub move_to : ℕ → ℕ → EventKind
-move_to level given = kind.MoveToLevel (record {
-  with_on_off = false;
+move_to level given = kind.Command (command.MoveToLevel (record {
+  options = record { with_on_off = false; options_mask = record { 0 = 0 }; options_override = record { 0 = 0 } };
   level = level;
-  transition_time = time.Known (tenths given);
-  options_mask = record { 0 = 0 };
-  options_override = record { 0 = 0 };
-})
+  transition_time = Some (tenths given);
+}))
 
--- a row: the question's number in document 01, the question, its key
+-- a row: the question's number in Keys, the question, its key
 pub record KeyRow : Type 0 where
-  pub p : ℕ
+  pub number : ℕ
   pub question : Question
   pub key : Key
 
 abbrev pub key_row : ℕ → Question → Key → KeyRow
-key_row p question key = record { p = p; question = question; key = key }
+key_row number question key = record { number = number; question = question; key = key }
 
 abbrev pub table : List KeyRow
 table =
@@ -145,7 +141,7 @@ table =
     ∷ key_row 8 (MovePeriod 3) (Count 333333)
     ∷ key_row 8 (MovePeriod 255) (Count 3922)
     ∷ key_row 9
-    (Requests (plain (Known 250))
+    (Requests (plain (Some 250))
     (at 0 (move_to 255 1) ∷ answers 1000000 251 ∷ answers 2000000 252 ∷ answers 3000000 253 ∷ answers 4000000 254 ∷ answers 5000000 255 ∷ []))
     (Count 5)
     ∷ key_row 10 (LevelReport 1000000) (Report true)
@@ -153,7 +149,7 @@ table =
     ∷ key_row 11 (SceneTime 99) (Count 0)
     ∷ key_row 11 (SceneTime 6553600) (Count 65535)
     ∷ key_row 12
-    (Actions (plain Missing) (at 0 (kind.OnOffChanged true) ∷ answers 0 1 ∷ []))
+    (Actions (plain None) (at 0 (kind.Command (command.OnOffChanged true)) ∷ answers 0 1 ∷ []))
     (Given (act D 1 ∷ (action P 0 ∷ action S 0 ∷ action L 0 ∷ action E 15 ∷ []) ∷ []))
     ∷ []
 
@@ -165,10 +161,10 @@ abbrev pub AllHold : List KeyRow → Type 0
 AllHold [] = Unit {0}
 AllHold (r ∷ rs) = Holds r × AllHold rs
 
--- a question of document 01 has a row
+-- the question of this number has a row
 abbrev pub asked : ℕ → List KeyRow → Bool
-asked p [] = false
-asked p (r ∷ rs) = eqb r.p p || asked p rs
+asked number [] = false
+asked number (r ∷ rs) = eqb r.number number || asked number rs
 
 -- each of the first n has one
 abbrev pub all_asked : ℕ → List KeyRow → Bool

@@ -1,5 +1,5 @@
 pub mod Orders
-pub mod Demand1
+pub mod EveryEvent
 pub mod Covered
 pub mod Replies
 pub mod Uninterrupted

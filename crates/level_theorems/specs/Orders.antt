@@ -1,14 +1,15 @@
--- "How events run" of document 01: the orders in which the kinds of the actions stand.
+-- Events and answers: the orders in which the kinds of the actions stand.
 use Rattle.std.specs.Prelude.{true, false, List, [], ◌∷◌}
-use Rattle.transitions.specs.declared.events.Action.{Action}
-use Rattle.transitions.specs.declared.events.ActionKind.{ActionKind}
-use Rattle.transitions.specs.declared.events.ActionKind.TheVariants.{D, P, S, C, L, R, W, E, K, X}
+use Rattle.transitions.specs.declared.actions.Action.{Action}
+use Rattle.transitions.specs.declared.actions.ActionKind.{ActionKind}
+use Rattle.transitions.specs.declared.actions.ActionKind.TheVariants.{D, P, S, C, L, R, W, E, K, X}
 use Rattle.transitions.specs.declared.events.DeviceAnswer.{DeviceAnswer}
 use Rattle.transitions.specs.declared.events.DeviceAnswer.TheVariants as device
 use Rattle.transitions.specs.declared.events.EventKind.{EventKind}
 use Rattle.transitions.specs.declared.events.EventKind.TheVariants as kind
 use Rattle.transitions.specs.declared.tasks.Task.{Task}
 use Rattle.transitions.specs.declared.tasks.Task.TheVariants as task
+use Rattle.transitions.specs.declared.events.Command.TheVariants as command
 
 -- the kinds of some actions
 abbrev pub kinds_of : List Action → List ActionKind
@@ -32,7 +33,7 @@ only pattern = pattern ∷ []
 abbrev pub nothing : List (List ActionKind)
 nothing = only []
 
--- "after a device answer the order is P, S, C, L, R, then W, D or E; the off restore adds P, L"; "a missing answer gives P, S, E in a fade"
+-- an answer with a level gives P, S, C, L, R, then W, or D, or the P, L of a level put back; a missing one P, S, E
 abbrev pub fade_orders : DeviceAnswer → List (List ActionKind)
 fade_orders (device.Level v) =
     (P ∷ S ∷ C ∷ L ∷ R ∷ W ∷ [])
@@ -42,7 +43,7 @@ fade_orders (device.Level v) =
 fade_orders device.Missing = only (P ∷ S ∷ E ∷ [])
 fade_orders device.Failed = only (E ∷ [])
 
--- "in a move, C at its end follows L, and C before a request precedes D"; a missing answer gives "P, S, L, E in a move"
+-- an answer with a level gives P, S, L, then C at the end, or W, or C, D; a missing one P, S, L, E
 abbrev pub move_orders : DeviceAnswer → List (List ActionKind)
 move_orders (device.Level v) =
     (P ∷ S ∷ L ∷ C ∷ [])
@@ -52,7 +53,7 @@ move_orders (device.Level v) =
 move_orders device.Missing = only (P ∷ S ∷ L ∷ E ∷ [])
 move_orders device.Failed = only (E ∷ [])
 
--- "C on the on reaction's first answer, its target already reached, follows L too"
+-- an answer with a level gives P, S, L, then C where the target is already reached, or D, or E; a missing one P, S, L, E
 abbrev pub on_orders : DeviceAnswer → List (List ActionKind)
 on_orders (device.Level v) =
     (P ∷ S ∷ L ∷ C ∷ [])
@@ -62,7 +63,7 @@ on_orders (device.Level v) =
 on_orders device.Missing = only (P ∷ S ∷ L ∷ E ∷ [])
 on_orders device.Failed = only (E ∷ [])
 
--- "an answer to start-up gives P at most, a failed one nothing"
+-- an answer gives P at most; a failed one nothing
 abbrev pub start_up_orders : DeviceAnswer → List (List ActionKind)
 start_up_orders (device.Level v) = only (P ∷ [])
 start_up_orders device.Missing = only (P ∷ [])
@@ -88,21 +89,21 @@ wake_orders (task.OnReaction r) = nothing
 unfoldable pub orders : Task → EventKind → List (List ActionKind)
 orders t kind.StartUp = only (D ∷ [])
 -- a target is asked for, or reached (C), or there is no level to start from (E)
-orders t (kind.MoveToLevel r) = (D ∷ []) ∷ (C ∷ []) ∷ (E ∷ []) ∷ []
-orders t (kind.Move r) = (C ∷ D ∷ []) ∷ (E ∷ []) ∷ []
+orders t (kind.Command (command.MoveToLevel r)) = (D ∷ []) ∷ (C ∷ []) ∷ (E ∷ []) ∷ []
+orders t (kind.Command (command.Move r)) = (C ∷ D ∷ []) ∷ (E ∷ []) ∷ []
 -- a step from a missing level was refused: no E
-orders t (kind.Step r) = (D ∷ []) ∷ (C ∷ []) ∷ []
-orders t (kind.Stop r) = only (R ∷ [])
+orders t (kind.Command (command.Step r)) = (D ∷ []) ∷ (C ∷ []) ∷ []
+orders t (kind.Command (command.Stop r)) = only (R ∷ [])
 orders t (kind.Answer a) = answer_orders t a
 orders t kind.Wake = wake_orders t
 -- on asks for MIN; off is a target, and reports the level where it was reached
-orders t (kind.OnOffChanged true) = only (D ∷ [])
-orders t (kind.OnOffChanged false) = (D ∷ []) ∷ (C ∷ L ∷ []) ∷ (E ∷ []) ∷ []
+orders t (kind.Command (command.OnOffChanged true)) = only (D ∷ [])
+orders t (kind.Command (command.OnOffChanged false)) = (D ∷ []) ∷ (C ∷ L ∷ []) ∷ (E ∷ []) ∷ []
 -- a scene is a target without on/off: no C
-orders t (kind.Scene r) = (D ∷ []) ∷ (E ∷ []) ∷ []
-orders t (kind.DeviceUpdate level) = only (P ∷ S ∷ L ∷ R ∷ [])
-orders t kind.DeviceStop = only (R ∷ [])
-orders t (kind.SetOnLevel level) = only (K ∷ [])
-orders t (kind.SetDefaultMoveRate rate) = only (K ∷ [])
-orders t (kind.SetStartUpCurrentLevel level) = only (K ∷ [])
-orders t kind.FactoryReset = only (X ∷ [])
+orders t (kind.Command (command.Scene r)) = (D ∷ []) ∷ (E ∷ []) ∷ []
+orders t (kind.Command (command.DeviceUpdate level)) = only (P ∷ S ∷ L ∷ R ∷ [])
+orders t (kind.Command command.DeviceStop) = only (R ∷ [])
+orders t (kind.Command (command.SetOnLevel level)) = only (K ∷ [])
+orders t (kind.Command (command.SetDefaultMoveRate rate)) = only (K ∷ [])
+orders t (kind.Command (command.SetStartUpCurrentLevel level)) = only (K ∷ [])
+orders t (kind.Command command.FactoryReset) = only (X ∷ [])

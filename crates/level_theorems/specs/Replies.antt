@@ -1,4 +1,4 @@
--- A device that answers every request of a fade, and the wakes that end its waits.
+-- Every fade, progress: a device that answers every request of a fade, and the wakes that end its waits.
 use Rattle.std.specs.Prelude.{ℕ, ◌+◌, max, Bool, true, ◌&&◌, ◌≡◌, List, [], ◌∷◌, ◌++◌, leb}
 use Rattle.units.specs.Units.{micros}
 use Rattle.transitions.specs.Events.{event}
@@ -51,7 +51,7 @@ answers_from r (p ∷ ps) =
 -- every wake and every answer comes by 2^62 − 1
 abbrev pub in_time : List Event → Bool
 in_time [] = true
-in_time (e ∷ es) = leb e.at.0 latest.0 && in_time es
+in_time (e ∷ es) = leb e.moment.at.0 latest.0 && in_time es
 
 -- a list of events after which a run from c to t is at rest, all its n requests answered
 pub record Ends (c t : ℕ) (r : Run) (es : List Event) : Type 0 where

@@ -1,31 +1,30 @@
--- An uninterrupted fade; and what of it the task says is open.
+-- Every fade: an uninterrupted one; and what of it the task says is open.
 use Rattle.std.specs.Prelude.{Bool, true, false, not, ◌&&◌, ◌||◌, List, [], ◌∷◌}
-use Rattle.transitions.specs.Events.{turn_of}
 use Rattle.transitions.specs.declared.events.Event.{Event}
-use Rattle.transitions.specs.declared.events.Turn.{Turn}
-use Rattle.transitions.specs.declared.events.Turn.TheVariants as turn
+use Rattle.transitions.specs.declared.events.EventKind.{EventKind}
+use Rattle.transitions.specs.declared.events.EventKind.TheVariants as kind
 use Rattle.transitions.specs.declared.tasks.Phase.{Phase}
 use Rattle.transitions.specs.declared.tasks.Phase.TheVariants.{Asked, Waiting}
 use Rattle.transitions.specs.declared.tasks.Task.{Task}
 use Rattle.transitions.specs.declared.tasks.Task.TheVariants as task
 use Rattle.level_control.specs.Run.{Run, Pending, Nothing, Request, Wait, accepted, next}
 
-abbrev pub is_answer_or_wake : Turn → Bool
-is_answer_or_wake turn.StartUp = false
-is_answer_or_wake turn.Answer = true
-is_answer_or_wake turn.Wake = true
-is_answer_or_wake turn.Other = false
+abbrev pub is_answer_or_wake : EventKind → Bool
+is_answer_or_wake kind.StartUp = false
+is_answer_or_wake (kind.Answer a) = true
+is_answer_or_wake kind.Wake = true
+is_answer_or_wake (kind.Command c) = false
 
 abbrev pub at_rest : Pending → Bool
 at_rest Nothing = true
 at_rest Request = false
 at_rest Wait = false
 
--- "a fade is uninterrupted if up to its end only answers and wakes are accepted"
+-- up to the fade's end only answers and wakes are accepted
 abbrev pub uninterrupted : Run → List Event → Bool
 uninterrupted r [] = true
 uninterrupted r (e ∷ es) =
-    at_rest r.pending || ((not (accepted r.state e) || is_answer_or_wake (turn_of e.kind)) && uninterrupted (next r e) es)
+    at_rest r.pending || ((not (accepted r.state e) || is_answer_or_wake e.kind) && uninterrupted (next r e) es)
 
 -- the request or the wait that a task keeps
 

@@ -1,90 +1,92 @@
-// The page of theorems about the machine, each held by a function's contract: there is nothing to run. What every event gives, field by field and letter by
-// letter, is `every_field_holds` of event_theorems.
+//! The page of theorems about the machine, each held by a function's contract: there is nothing to run. What every event
+//! gives, field by field and letter by letter, is `every_field_holds` of event_theorems.
 #![tactic(auto)]
 
-ghost use Rattle.level_theorems.specs.Demand1.{Demand1};
+ghost use Rattle.level_theorems.specs.EveryEvent.{EveryEvent};
 ghost use Rattle.level_theorems.specs.FadeTheorems.{AnswersAccepted, ComesToRest, EveryFadeCovered, ExactKey, PathIs, ReactionsCovered, TaskAgrees, Uninterrupted, WaitsEnd, WakesAccepted};
 ghost use Rattle.level_theorems.specs.Instances.{Instances};
 ghost use Rattle.level_theorems.specs.Keys.{Keys};
-ghost use Rattle.level_control.specs.Demand3.{EveryFade};
+ghost use Rattle.level_control.specs.EveryFade.{EveryFade};
 
-// Demand 1: of every event in every state. Refused ones change nothing, the number is that of the first cause, the actions are
-// at most seven and stand in document 01's orders; and where times, waits and levels come from.
+/// Every event, in every state. Refused ones change nothing, the number is that of the first cause, the actions are at most
+/// seven and stand in the order of the table (Events and answers); and where times, waits and levels come from.
 pub fn every_event_holds()
-    ensures { Demand1 }
+    ensures { EveryEvent }
 {}
 
-// Demand 3: what every fade of at least 1 tenth shows, after every list of events after its start.
+/// Every fade: what one of at least 1 tenth shows, after every list of events after its start.
 #[tactic(auto, using(level_control::proofs::EveryFade::every_fade))]
 pub fn every_fade_holds()
     ensures { EveryFade }
 {}
 
-// From c to t lead n levels; the i-th is i above c, or below it, and the last is t.
+/// From c to t lead n levels; the i-th is i above c, or below it, and the last is t.
 pub fn path_leads()
     ensures { PathIs }
 {}
 
-// No fade is left out: an accepted event starts the fade that parts 6, 9 and 10 name; where they name none, no fade runs after it but the
-// one that ran before, gone on or left as it was.
+/// No fade is left out: an accepted event starts the fade that the table of starts names (Every fade); where it names none, no
+/// fade runs after the event but the one that ran before, gone on or left as it was.
 pub fn every_fade_is_covered()
     ensures { EveryFadeCovered }
 {}
 
-// An on reaction comes only from event 7 (on), and keeps the level that it found.
+/// An on reaction comes only from on, and keeps the level that it found.
 #[tactic(auto, using(crate::proofs::ReactionsCovered::reactions_covered))]
 pub fn reactions_are_covered()
     ensures { ReactionsCovered }
 {}
 
-// The remaining time of such a fade to the tenth, for every k; before the first answer it is what was shown before the fade.
+/// The remaining time of such a fade to the tenth, for every k; before the first answer it is what was shown before the fade.
 #[tactic(auto, using(crate::proofs::ExactKey::exact_key))]
 pub fn exact_key_holds()
     ensures { ExactKey }
 {}
 
-// What is seen of such a fade to be open, a request or a wait, is what the task keeps.
+/// What is seen of such a fade to be open, a request or a wait, is what the task keeps.
 #[tactic(auto, using(crate::proofs::TaskAgrees::task_agrees))]
 pub fn task_agrees()
     ensures { TaskAgrees }
 {}
 
-// Progress: with a request open, an answer in time is accepted.
+/// Progress: with a request open, an answer in time is accepted.
 #[tactic(auto, using(crate::proofs::Acceptance::answers_accepted))]
 pub fn answers_are_accepted()
     ensures { AnswersAccepted }
 {}
 
-// Progress: while a fade or a move waits, a wake that is due is accepted.
+/// Progress: while a fade or a move waits, a wake that is due is accepted.
 #[tactic(auto, using(crate::proofs::Acceptance::wakes_accepted))]
 pub fn wakes_are_accepted()
     ensures { WakesAccepted }
 {}
 
-// Progress: every fade of at least 1 tenth comes to rest after n answers, whatever levels the device answers and however late, by 2^62 − 1.
+/// Progress: every fade of at least 1 tenth comes to rest after n answers, whatever levels the device answers and however
+/// late, by 2^62 − 1.
 pub fn every_fade_comes_to_rest()
     ensures { ComesToRest }
 {}
 
-// Progress: its waits end by then if the start, the device's delays and the fade's time add up to at most 2^62 − 1.
+/// Progress: its waits end by then if the start, the device's delays and the fade's time add up to at most 2^62 − 1.
 #[tactic(auto, using(crate::proofs::WaitsEnd::waits_end))]
 pub fn waits_end()
     ensures { WaitsEnd }
 {}
 
-// A list of which only answers with a level and wakes are accepted leaves a fade uninterrupted.
+/// A list of which only answers with a level and wakes are accepted leaves a fade uninterrupted.
 #[tactic(auto, using(crate::proofs::Uninterrupted::uninterrupted_holds))]
 pub fn onward_is_uninterrupted()
     ensures { Uninterrupted }
 {}
 
-// The claim is not empty: a play for each of the five starts, with a refused event, a late answer and a device that answers other levels.
+/// The claim is not empty: a play for each of the five starts, with a refused event, a late answer and a device that answers
+/// other levels.
 #[tactic(auto, using(crate::proofs::PlayedInstances::instances))]
 pub fn instances_hold()
     ensures { Instances }
 {}
 
-// Every question of the table of keys has the key that stands beside it, and the twelve questions stand in it.
+/// Keys: every question of the table has the key that stands beside it, and the twelve questions stand in it.
 #[tactic(auto, using(crate::proofs::KeyLaws::keys_hold))]
 pub fn keys_hold()
     ensures { Keys }

@@ -1,4 +1,5 @@
 -- The end of off, start-up, Stop and Move, and the Matter document. Assumes nothing.
+use Rattle.std.specs.Prelude.{Option, Some, None, Result, Ok, Err, ℕ}
 use Prim.Native.Nat.{ℕ, ◌+◌, ◌-◌, ◌≤◌}
 use mathlib.Core.Bool.{Bool, true, false, cond, not, true≢false}
 use mathlib.Core.Path.{◌≡◌, refl, sym, ap, subst, ◌∙◌}
@@ -12,17 +13,13 @@ use Rattle.units.specs.declared.Micros.{Micros}
 use Rattle.transitions.specs.Commands.{is_invalid}
 use Rattle.transitions.specs.Events.{event, act, act_coupled}
 use Rattle.transitions.specs.Tasks.{task_open, phase_open, fade_last, level_to_restore, next_move, at_limit}
-use Rattle.transitions.specs.declared.commands.MoveRate.{MoveRate}
-use Rattle.transitions.specs.declared.commands.MoveRate.TheVariants as rate
-use Rattle.transitions.specs.declared.events.ActionKind.TheVariants.{D}
+use Rattle.transitions.specs.declared.actions.ActionKind.TheVariants.{D}
 use Rattle.transitions.specs.declared.events.DeviceAnswer.TheVariants as device
 use Rattle.transitions.specs.declared.events.Event.{Event}
 use Rattle.transitions.specs.declared.events.EventKind.{EventKind}
 use Rattle.transitions.specs.declared.events.EventKind.TheVariants as kind
 use Rattle.transitions.specs.declared.events.MoveRequest.{MoveRequest}
-use Rattle.transitions.specs.declared.events.StopRequest.{StopRequest}
-use Rattle.transitions.specs.declared.tasks.AfterFade.{AfterFade}
-use Rattle.transitions.specs.declared.tasks.AfterFade.TheVariants.{Restore}
+use Rattle.transitions.specs.declared.options.CommandOptions.{CommandOptions}
 use Rattle.transitions.specs.declared.tasks.Fade.{Fade}
 use Rattle.transitions.specs.declared.tasks.MoveCourse.{MoveCourse}
 use Rattle.transitions.specs.declared.tasks.MoveStep.{MoveStep}
@@ -31,13 +28,12 @@ use Rattle.transitions.specs.declared.tasks.Phase.{Phase}
 use Rattle.transitions.specs.declared.tasks.Phase.TheVariants.{Asked, Waiting}
 use Rattle.transitions.specs.declared.tasks.Task.{Task}
 use Rattle.transitions.specs.declared.tasks.Task.TheVariants as task
-use Rattle.transitions.specs.declared.types.Level.{Level}
-use Rattle.transitions.specs.declared.types.Level.TheVariants.{Known, Missing}
+use Rattle.transitions.specs.Types.{Level}
 use Rattle.transitions.specs.declared.types.Mode.{Mode}
 use Rattle.transitions.specs.declared.types.Mode.TheVariants.{Up, Down}
 use Rattle.transitions.specs.declared.types.OptionsBitmap.{OptionsBitmap}
 use Rattle.level_control.specs.State.{accept, with_task, with_level, with_remaining_time, with_answered}
-use Rattle.transitions.specs.ActionList.{reports_of}
+use Rattle.transitions.specs.Actions.{reports_of}
 use Rattle.level_control.specs.Answer.{Outcome, done}
 use Rattle.level_control.specs.Causes.{turn_tests, move_tests, stop_tests, command_tests_of}
 use Rattle.level_control.specs.Events.{fade_answered_in, answered_in, answered, run, number_of, event_of}
@@ -47,7 +43,7 @@ use Rattle.level_control.specs.Reports.{continues, set_level, write_remaining_ti
 use Rattle.level_control.specs.Rest.{start_up_or, start_up_level, start_up_at, started_up}
 use Rattle.level_control.specs.Run.{accepted, asks}
 use Rattle.level_control.specs.Targets.{quiet, stopped}
-use Rattle.level_control.specs.declared.reports.Told.{Told}
+use Rattle.level_control.specs.Reports.{Told}
 use Rattle.level_control.specs.declared.state.LevelControlState.{LevelControlState}
 use Rattle.level_control.proofs.EventLaws.{event_runs, turn_passes, command_passes}
 use Rattle.level_control.proofs.EveryFade.{accepted_zero}
@@ -56,25 +52,27 @@ use Rattle.level_control.proofs.StartLaws.{continues_is}
 use Rattle.matter.specs.Matter.{move_to, after_off, start_up}
 use Rattle.matter.specs.Agreement.{passes, InRange, levels}
 use Rattle.matter.proofs.Changes.{is_command, command_keeps_level}
+use Rattle.transitions.specs.declared.causes.Refusal.{Refusal}
+use Rattle.transitions.specs.declared.events.Command.TheVariants as command
 
 -- an accepted event of a kind, as it runs
 runs_as : (s : LevelControlState) (e : Event) (k : EventKind) → e.kind ≡ k → accepted s e ≡ true
-    → (command_tests_of s e.on_off k).stopped_by_options ≡ false → event_of s e ≡ run (accept s e.at) k e.at e.on_off
+    → (command_tests_of s e.moment.on_off k).stopped_by_options ≡ false → event_of s e ≡ run (accept s e.moment.at) k e.moment.at e.moment.on_off
 runs_as s e k q ok free =
-    let at : Micros = e.at in
-    let on : Bool = e.on_off in
+    let at : Micros = e.moment.at in
+    let on : Bool = e.moment.on_off in
     let zero : number_of s (event at on k) ≡ 0 =
     accepted_zero s (event at on k) (subst (λ (x : EventKind). accepted s (event at on x) ≡ true) q ok) in
     ap (λ (x : EventKind). event_of s (event at on x)) q ∙ event_runs s (event at on k) zero free
 
 -- The end of off.
 
-off_level : (s : LevelControlState) (f : Fade) (since at : Micros) (on : Bool) (v stored : ℕ) → f.after ≡ Restore stored → fade_last f ≡ true
-    → (fade_answered (accept s at) f since at on (device.Level v)).state.current_level ≡ Known (after_off s.attributes.on_level stored v)
+off_level : (s : LevelControlState) (f : Fade) (since at : Micros) (on : Bool) (v stored : ℕ) → f.after ≡ Some stored → fade_last f ≡ true
+    → (fade_answered (accept s at) f since at on (device.Level v)).state.current_level ≡ Some (after_off s.attributes.on_level stored v)
 unfolding fade_answered move_to_level_transition fade_ended fade_told fade_stored set_level write_remaining_time with_answered with_remaining_time with_task with_level accept restored level_to_restore
 off_level s f since at on v stored after last =
     ap (λ (b : Bool). (cond b (fade_ended told f.after) others).state.current_level) last
-    ∙ ap (λ (a : AfterFade). (fade_ended told a).state.current_level) after
+    ∙ ap (λ (a : Option ℕ). (fade_ended told a).state.current_level) after
     ∙ ended s.attributes.on_level
   where
     told : Told
@@ -83,69 +81,69 @@ off_level s f since at on v stored after last =
     others : Outcome
     others = fade_goes_on told f since at
 
-    ended : (l : Level) → (fade_ended_by (level_to_restore (Restore stored) l) told).state.current_level ≡ Known (after_off l stored v)
-    ended (Known x) = refl
-    ended Missing = refl
+    ended : (l : Level) → (fade_ended_by (level_to_restore (Some stored) l) told).state.current_level ≡ Some (after_off l stored v)
+    ended (Some x) = refl
+    ended None = refl
 
 pub off_ends : (s : LevelControlState) (e : Event) (f : Fade) (stored v : ℕ)
-    → s.task ≡ task.Fade f → f.after ≡ Restore stored → fade_last f ≡ true → e.kind ≡ kind.Answer (device.Level v) → accepted s e ≡ true
-    → (event_of s e).state.current_level ≡ Known (after_off s.attributes.on_level stored v)
+    → s.task ≡ task.Fade f → f.after ≡ Some stored → fade_last f ≡ true → e.kind ≡ kind.Answer (device.Level v) → accepted s e ≡ true
+    → (event_of s e).state.current_level ≡ Some (after_off s.attributes.on_level stored v)
 unfolding run answered accept command_tests_of number_of turn_tests
 off_ends s e f stored v runs after last k ok =
     ap (λ (o : Outcome). o.state.current_level) (runs_as s e (kind.Answer (device.Level v)) k ok refl)
-    ∙ ap (λ (x : Task). (answered_in x (accept s e.at) (device.Level v) e.at e.on_off).state.current_level) runs
+    ∙ ap (λ (x : Task). (answered_in x (accept s e.moment.at) (device.Level v) e.moment.at e.moment.on_off).state.current_level) runs
     ∙ by f.phase refl
   where
-    zero : number_of s (event e.at e.on_off (kind.Answer (device.Level v))) ≡ 0
+    zero : number_of s (event e.moment.at e.moment.on_off (kind.Answer (device.Level v))) ≡ 0
     zero =
-        accepted_zero s (event e.at e.on_off (kind.Answer (device.Level v)))
-        (subst (λ (x : EventKind). accepted s (event e.at e.on_off x) ≡ true) k ok)
+        accepted_zero s (event e.moment.at e.moment.on_off (kind.Answer (device.Level v)))
+        (subst (λ (x : EventKind). accepted s (event e.moment.at e.moment.on_off x) ≡ true) k ok)
 
     is_open : not (task_open s.task) ≡ false
     is_open = (turn_passes _ _ zero).opened
 
     by : (p : Phase) → f.phase ≡ p
-        → (fade_answered_in p (accept s e.at) f (device.Level v) e.at e.on_off).state.current_level
-        ≡ Known (after_off s.attributes.on_level stored v)
-    by (Asked since) q = off_level s f since e.at e.on_off v stored after last
+        → (fade_answered_in p (accept s e.moment.at) f (device.Level v) e.moment.at e.moment.on_off).state.current_level
+        ≡ Some (after_off s.attributes.on_level stored v)
+    by (Asked since) q = off_level s f since e.moment.at e.moment.on_off v stored after last
     by (Waiting until) q = absurd (true≢false (sym (ap (λ (x : Task). not (task_open x)) runs ∙ ap (λ (p : Phase). not (phase_open p)) q) ∙ is_open))
 
 -- Start-up.
 
-held : (lo hi v level : ℕ) → lo ≤ hi → (v ≡ 0) ⊎ ((lo ≤ v) × (v ≤ hi)) → cond (eqb v 0) (Known lo) (Known v) ≡ Known level → held_to lo hi v ≡ level
+held : (lo hi v level : ℕ) → lo ≤ hi → (v ≡ 0) ⊎ ((lo ≤ v) × (v ≤ hi)) → cond (eqb v 0) (Some lo) (Some v) ≡ Some level → held_to lo hi v ≡ level
 held lo hi v level order range says = by (eqb v 0) refl says range
   where
-    by : (b : Bool) → eqb v 0 ≡ b → cond b (Known lo) (Known v) ≡ Known level → (v ≡ 0) ⊎ ((lo ≤ v) × (v ≤ hi)) → held_to lo hi v ≡ level
+    by : (b : Bool) → eqb v 0 ≡ b → cond b (Some lo) (Some v) ≡ Some level → (v ≡ 0) ⊎ ((lo ≤ v) × (v ≤ hi)) → held_to lo hi v ≡ level
     by true q p r = let z = eqb-true v 0 q in let same : lo ≡ level = cc in omega arith
     by false q p (inl z) = absurd (eqb-false v 0 q z)
     by false q p (inr (low, high)) = let same : v ≡ level = cc in omega arith
 
 pub start_up_agrees : (s : LevelControlState) (e : Event) (level : ℕ)
-    → e.kind ≡ kind.StartUp → accepted s e ≡ true → s.settings.min_level ≤ s.settings.max_level
-    → InRange s.attributes.start_up_current_level s.settings.min_level s.settings.max_level
-    → start_up s.attributes.start_up_current_level s.settings.min_level s.current_level ≡ Known level
+    → e.kind ≡ kind.StartUp → accepted s e ≡ true → s.settings.range.min ≤ s.settings.range.max
+    → InRange s.attributes.start_up_current_level s.settings.range.min s.settings.range.max
+    → start_up s.attributes.start_up_current_level s.settings.range.min s.current_level ≡ Some level
     → asks (event_of s e).actions ≡ level ∷ []
 unfolding run started_up start_up_level accept command_tests_of
 start_up_agrees s e level k ok order range says =
     ap (λ (o : Outcome). asks o.actions) (runs_as s e kind.StartUp k ok refl) ∙ by s.attributes.start_up_current_level range says
   where
-    by : (l : Level) → InRange l s.settings.min_level s.settings.max_level → start_up l s.settings.min_level s.current_level ≡ Known level
-        → asks (start_up_at (start_up_or l (accept s e.at)) (accept s e.at)).actions ≡ level ∷ []
-    by (Known v) r p = ap (λ (x : ℕ). x ∷ []) (held s.settings.min_level s.settings.max_level v level order r p)
-    by Missing r p = ap (λ (l : Level). asks (start_up_at l (accept s e.at)).actions) p
+    by : (l : Level) → InRange l s.settings.range.min s.settings.range.max → start_up l s.settings.range.min s.current_level ≡ Some level
+        → asks (start_up_at (start_up_or l (accept s e.moment.at)) (accept s e.moment.at)).actions ≡ level ∷ []
+    by (Some v) r p = ap (λ (x : ℕ). x ∷ []) (held s.settings.range.min s.settings.range.max v level order r p)
+    by None r p = ap (λ (l : Level). asks (start_up_at l (accept s e.moment.at)).actions) p
 
 -- Stop.
 
 passed : (s : LevelControlState) (e : Event) (with_on_off : Bool) (mask override : OptionsBitmap) → passes s e with_on_off mask override ≡ true
-    → not (continues s with_on_off e.on_off mask override) ≡ false
-passed s e with_on_off mask override p = ap not (continues_is s with_on_off e.on_off mask override ∙ p)
+    → not (continues s with_on_off e.moment.on_off mask override) ≡ false
+passed s e with_on_off mask override p = ap not (continues_is s with_on_off e.moment.on_off mask override ∙ p)
 
-pub stop : (s : LevelControlState) (e : Event) (r : StopRequest)
-    → e.kind ≡ kind.Stop r → accepted s e ≡ true → passes s e r.with_on_off r.options_mask r.options_override ≡ true
+pub stop : (s : LevelControlState) (e : Event) (r : CommandOptions)
+    → e.kind ≡ kind.Command (command.Stop r) → accepted s e ≡ true → passes s e r.with_on_off r.options_mask r.options_override ≡ true
     → ((event_of s e).state.task ≡ task.Rest) × ((event_of s e).state.remaining_time.0 ≡ 0) × ((event_of s e).state.current_level ≡ s.current_level)
 unfolding run stopped write_remaining_time with_remaining_time with_task accept command_tests_of stop_tests
 stop s e r k ok p =
-    let same = runs_as s e (kind.Stop r) k ok (passed s e r.with_on_off r.options_mask r.options_override p) in
+    let same = runs_as s e (kind.Command (command.Stop r)) k ok (passed s e r.with_on_off r.options_mask r.options_override p) in
     (ap (λ (o : Outcome). o.state.task) same, ap (λ (o : Outcome). o.state.remaining_time.0) same, command_keeps_level s e (ap is_command k))
 
 -- Move.
@@ -164,61 +162,61 @@ move_by_asks (next.Asks level) t m at on =
     ∙ ap (λ (l : List ℕ). l ++ (level ∷ []))
     (asks_after t.reports coupled ∙ (silent_coupled (leaves_min t.state level m.with_on_off on)).no_ask)
 
-move_at_asks : (x : MoveRate) (s : LevelControlState) (r : MoveRequest) (at : Micros) (on : Bool) → is_invalid x ≡ false
+move_at_asks : (x : Result ℕ Refusal) (s : LevelControlState) (r : MoveRequest) (at : Micros) (on : Bool) → is_invalid x ≡ false
     → asks (move_at x s r at on).actions ≡ asked (next_move s.current_level r.mode)
 unfolding move_goes_on
-move_at_asks (rate.Goes n) s r at on h = move_by_asks (next_move s.current_level r.mode) (quiet s) _ at on
-move_at_asks rate.InvalidCommand s r at on h = absurd (true≢false h)
+move_at_asks (Ok n) s r at on h = move_by_asks (next_move s.current_level r.mode) (quiet s) _ at on
+move_at_asks (Err cause) s r at on h = absurd (true≢false h)
 
-next_up : (lo hi c : ℕ) → c ≤ hi → hi ≤ 254 → (l : List ℕ) → l ≡ asked (next_move (Known c) Up) → cond (eqb c hi) [] l ≡ levels (move_to Up lo hi c)
+next_up : (lo hi c : ℕ) → c ≤ hi → hi ≤ 254 → (l : List ℕ) → l ≡ asked (next_move (Some c) Up) → cond (eqb c hi) [] l ≡ levels (move_to Up lo hi c)
 unfolding next_move
 next_up lo hi c high small l e = by (eqb c hi) refl
   where
-    by : (b : Bool) → eqb c hi ≡ b → cond b [] l ≡ levels (cond b Missing (Known (cond b c (c + 1))))
+    by : (b : Bool) → eqb c hi ≡ b → cond b [] l ≡ levels (cond b None (Some (cond b c (c + 1))))
     by true q = refl
     by false q = e ∙ ap (λ (b : Bool). asked (cond b (next.Asks (c + 1)) next.Ends)) (lt-ltb c 255 (omega arith))
 
-next_down : (lo hi c : ℕ) → lo ≤ c → (l : List ℕ) → l ≡ asked (next_move (Known c) Down) → cond (eqb c lo) [] l ≡ levels (move_to Down lo hi c)
+next_down : (lo hi c : ℕ) → lo ≤ c → (l : List ℕ) → l ≡ asked (next_move (Some c) Down) → cond (eqb c lo) [] l ≡ levels (move_to Down lo hi c)
 unfolding next_move
 next_down lo hi c low l e = by (eqb c lo) refl
   where
-    by : (b : Bool) → eqb c lo ≡ b → cond b [] l ≡ levels (cond b Missing (Known (cond b c (c - 1))))
+    by : (b : Bool) → eqb c lo ≡ b → cond b [] l ≡ levels (cond b None (Some (cond b c (c - 1))))
     by true q = refl
     by false q = e ∙ ap (λ (b : Bool). asked (cond b (next.Asks (c - 1)) next.Ends)) (lt-ltb 0 c (let ne = eqb-false c lo q in omega arith))
 
 pub move_asks : (s : LevelControlState) (e : Event) (r : MoveRequest) (c : ℕ)
-    → e.kind ≡ kind.Move r → accepted s e ≡ true → passes s e r.with_on_off r.options_mask r.options_override ≡ true
-    → s.current_level ≡ Known c → s.settings.min_level ≤ c → c ≤ s.settings.max_level → s.settings.max_level ≤ 254
-    → asks (event_of s e).actions ≡ levels (move_to r.mode s.settings.min_level s.settings.max_level c)
+    → e.kind ≡ kind.Command (command.Move r) → accepted s e ≡ true → passes s e r.options.with_on_off r.options.options_mask r.options.options_override ≡ true
+    → s.current_level ≡ Some c → s.settings.range.min ≤ c → c ≤ s.settings.range.max → s.settings.range.max ≤ 254
+    → asks (event_of s e).actions ≡ levels (move_to r.mode s.settings.range.min s.settings.range.max c)
 unfolding run begin_move accept command_tests_of move_tests number_of at_limit rate_by
 move_asks s e r c k ok p level low high small =
-    ap (λ (o : Outcome). asks o.actions) (runs_as s e (kind.Move r) k ok free)
+    ap (λ (o : Outcome). asks o.actions) (runs_as s e (kind.Command (command.Move r)) k ok free)
     ∙ split (at_limit s.current_level r.mode lo hi)
     ∙ ap (λ (l : Level). cond (at_limit l r.mode lo hi) [] (asks (move_at (rate_by s' r) s' r at on).actions)) level
     ∙ by r.mode (move_at_asks (rate_by s' r) s' r at on valid ∙ ap (λ (l : Level). asked (next_move l r.mode)) level)
   where
     at : Micros
-    at = e.at
+    at = e.moment.at
 
     on : Bool
-    on = e.on_off
+    on = e.moment.on_off
 
     s' : LevelControlState
-    s' = accept s e.at
+    s' = accept s e.moment.at
 
     lo : ℕ
-    lo = s.settings.min_level
+    lo = s.settings.range.min
 
     hi : ℕ
-    hi = s.settings.max_level
+    hi = s.settings.range.max
 
-    free : not (continues s r.with_on_off e.on_off r.options_mask r.options_override) ≡ false
-    free = passed s e r.with_on_off r.options_mask r.options_override p
+    free : not (continues s r.options.with_on_off e.moment.on_off r.options.options_mask r.options.options_override) ≡ false
+    free = passed s e r.options.with_on_off r.options.options_mask r.options.options_override p
 
-    zero : number_of s (event e.at e.on_off (kind.Move r)) ≡ 0
+    zero : number_of s (event e.moment.at e.moment.on_off (kind.Command (command.Move r))) ≡ 0
     zero =
-        accepted_zero s (event e.at e.on_off (kind.Move r))
-        (subst (λ (x : EventKind). accepted s (event e.at e.on_off x) ≡ true) k ok)
+        accepted_zero s (event e.moment.at e.moment.on_off (kind.Command (command.Move r)))
+        (subst (λ (x : EventKind). accepted s (event e.moment.at e.moment.on_off x) ≡ true) k ok)
 
     valid : is_invalid (rate_by s r) ≡ false
     valid = (command_passes _ _ zero free).valid
@@ -227,7 +225,7 @@ move_asks s e r c k ok p level low high small =
     split true = refl
     split false = refl
 
-    by : (m : Mode) → asks (move_at (rate_by s' r) s' r at on).actions ≡ asked (next_move (Known c) m)
-        → cond (at_limit (Known c) m lo hi) [] (asks (move_at (rate_by s' r) s' r at on).actions) ≡ levels (move_to m lo hi c)
+    by : (m : Mode) → asks (move_at (rate_by s' r) s' r at on).actions ≡ asked (next_move (Some c) m)
+        → cond (at_limit (Some c) m lo hi) [] (asks (move_at (rate_by s' r) s' r at on).actions) ≡ levels (move_to m lo hi c)
     by Up h = next_up lo hi c high small _ h
     by Down h = next_down lo hi c low _ h

@@ -12,7 +12,7 @@ use Rattle.transitions.specs.RemainingTime.{remaining_time_due}
 use Rattle.transitions.specs.Tasks.{at_limit, next_move, fade_asking, fade_waiting, fade_from, level_to_restore, begin_fade}
 use Rattle.transitions.specs.Types.{same_level, level_or, time_or}
 use Rattle.level_control.specs.State.{new_state, accept, with_task, with_level, with_remaining_time, with_answered}
-use Rattle.transitions.specs.ActionList.{reports_of}
+use Rattle.transitions.specs.Actions.{reports_of}
 use Rattle.level_control.specs.Reports.{write_remaining_time, level_due, set_level, told_level, coupled_by, continues}
 use Rattle.level_control.specs.Targets.{go_to, moved_to_level, stepped_level, stepped_time, stepped, recalled}
 use Rattle.level_control.specs.Fades.{fade_coupling, fade_stored, fade_told, restored, fade_ended, fade_goes_on, move_to_level_transition, fade_answered, fade_woken}

@@ -1,4 +1,5 @@
--- Document 01's sheet as records, computed. Assumes nothing.
+-- The small play of Sheet as records, computed. Assumes nothing.
+use Rattle.std.specs.Prelude.{Some}
 use Prim.Native.Nat.{ℕ}
 use mathlib.Core.Bool.{Bool, true, false, ◌&&◌}
 use mathlib.Core.Path.{◌≡◌, refl}
@@ -19,7 +20,7 @@ use Rattle.transitions.specs.RemainingTime.{remaining_time_due}
 use Rattle.transitions.specs.Tasks.{fade_asking, fade_waiting, fade_from, level_to_restore, begin_fade}
 use Rattle.transitions.specs.Types.{same_level, level_or, time_or}
 use Rattle.level_control.specs.State.{new_state, accept, with_task, with_level, with_remaining_time, with_answered}
-use Rattle.transitions.specs.ActionList.{reports_of}
+use Rattle.transitions.specs.Actions.{reports_of}
 use Rattle.level_control.specs.Reports.{write_remaining_time, level_due, set_level, told_level, coupled_by, continues}
 use Rattle.level_control.specs.Targets.{go_to, moved_to_level, stepped_level, stepped_time, stepped, recalled}
 use Rattle.level_control.specs.Fades.{fade_coupling, fade_stored, fade_told, restored, fade_ended, fade_goes_on, move_to_level_transition, fade_answered, fade_woken}
@@ -28,22 +29,20 @@ use Rattle.level_control.specs.Causes.{time_refused, turn_tests, move_to_level_t
 use Rattle.level_control.specs.Events.{answered, woken, run, number_of, event_of}
 use Rattle.level_control.specs.Run.{next}
 use Rattle.level_control.specs.Starts.{start_of}
-use Rattle.records.specs.Bytes.{is_flag, is_set, all_zero, zeros_from, has_marks}
-use Rattle.records.specs.Events.{event_if, start_up, move_to_level, move, step, stop, answer_at, answer, wake, on_off_changed, scene, device_update, device_stop, set_on_level, set_default_move_rate, set_start_up_current_level, factory_reset, event_read}
+use Rattle.records.specs.Events.{event_read, kind_read}
 use Rattle.records.specs.Laws.{AllBytes}
-use Rattle.records.specs.Settings.{settings_wrong, attributes_at, settings_at, settings_read}
-use Rattle.records.specs.Values.{level_if, rate_if, time_if, mode_of}
+use Rattle.records.specs.Settings.{settings_at, settings_read}
 use Rattle.sheet.specs.Lines.{record_outcome, outcomes_of}
 use Rattle.transitions.specs.Events.{event}
 use Rattle.transitions.specs.declared.events.Event.{Event}
 use Rattle.transitions.specs.declared.events.EventKind.TheVariants as kind
 use Rattle.transitions.specs.declared.settings.Settings.{Settings}
-use Rattle.transitions.specs.declared.types.Time.TheVariants as time
 use Rattle.level_control.specs.Answer.{Outcome}
 use Rattle.record_theorems.specs.RecordTheorems.{Configured}
 use Rattle.record_theorems.specs.RecordPlays.{Record, answer_to, StartsAt, directly}
 use Rattle.record_theorems.specs.RecordInstance.{settings_bytes, start_bytes, at, Instance}
 use Rattle.record_theorems.proofs.RecordsHold.{every_fade_recorded}
+use Rattle.transitions.specs.declared.events.Command.TheVariants as command
 
 abbrev all_small : List ℕ → Bool
 all_small [] = true
@@ -68,16 +67,14 @@ after =
     ∷ []
 
 abbrev start_event : Event
-start_event = event (micros 2000000) false (kind.MoveToLevel (record {
-  with_on_off = false;
+start_event = event (micros 2000000) false (kind.Command (command.MoveToLevel (record {
+  options = record { with_on_off = false; options_mask = record { 0 = 0 }; options_override = record { 0 = 0 } };
   level = 13;
-  transition_time = time.Known (tenths 3);
-  options_mask = record { 0 = 0 };
-  options_override = record { 0 = 0 };
-}))
+  transition_time = Some (tenths 3);
+})))
 
 pub instance : Instance
-unfolding accept all_zero answer answer_at answered attributes_at begin_fade command_tests_of continues coupled_by coupled_on_off current_level_due device_stop device_update event_if event_of event_read executes factory_reset fade_answered fade_asking fade_coupling fade_ended fade_from fade_goes_on fade_period fade_stored fade_told fade_waiting fade_woken first_cause go_to has_marks is_flag is_set is_transition_start level_due level_if level_or level_tests level_to_restore mode_of move move_to_level move_to_level_tests move_to_level_transition moved_to_level new_state next next_level number_of off_time on_answered on_goes_on on_off_changed on_time outcomes_of rate_if rate_in_force recalled record_outcome remaining_after remaining_time_due reports_of restored run same_level scaled_floor scene scene_tests set_default_move_rate set_level set_on_level set_start_up_current_level settings_at settings_read settings_wrong should_continue start_of start_up step step_level step_overflows step_tests step_time stepped stepped_level stepped_time stop switched target_level time_if time_or time_refused told_level turn_tests turned_off turned_on wait_or_ask wake with_answered with_level with_remaining_time with_task woken write_remaining_time zeros_from
+unfolding accept answered begin_fade command_tests_of continues coupled_by coupled_on_off current_level_due event_of event_read executes fade_answered fade_asking fade_coupling fade_ended fade_from fade_goes_on fade_period fade_stored fade_told fade_waiting fade_woken first_cause go_to is_transition_start kind_read level_due level_or level_tests level_to_restore move_to_level_tests move_to_level_transition moved_to_level new_state next next_level number_of off_time on_answered on_goes_on on_time outcomes_of rate_in_force recalled record_outcome remaining_after remaining_time_due reports_of restored run same_level scaled_floor scene_tests set_level settings_read should_continue start_of step_level step_overflows step_tests step_time stepped stepped_level stepped_time switched target_level time_or time_refused told_level turn_tests turned_off turned_on wait_or_ask with_answered with_level with_remaining_time with_task woken write_remaining_time
 instance =
     let x : Settings = settings_at settings_bytes in
     let first : Record = held start_bytes refl in

@@ -1,60 +1,59 @@
 -- A run over records is the run over the events that are read from them: a damaged record changes nothing that is seen. Assumes nothing.
+use Rattle.std.specs.Prelude.{Option, Some, None}
 use Prim.Native.Nat.{ℕ}
 use mathlib.Core.Bool.{Bool, true, false, not, ◌&&◌, ◌||◌}
 use mathlib.Core.Path.{◌≡◌, refl, sym, ap, subst, ◌∙◌}
 use mathlib.Core.List.{List, [], ◌∷◌, ◌++◌, append-nil}
 use lib.ListN.{length, drop}
 use Rattle.transitions.specs.declared.events.Event.{Event}
-use Rattle.transitions.specs.declared.events.Turn.TheVariants as turn
+use Rattle.transitions.specs.declared.events.EventKind.TheVariants as kind
 use Rattle.records.specs.Events.{event_read}
-use Rattle.records.specs.declared.events.EventRead.{EventRead}
-use Rattle.records.specs.declared.events.EventRead.TheVariants as read
 use Rattle.level_control.specs.Answer.{Outcome, refused}
-use Rattle.level_control.specs.Demand3 as fade
+use Rattle.level_control.specs.EveryFade as fade
 use Rattle.level_control.specs.Events.{event_of}
 use Rattle.level_control.specs.Run as run
 use Rattle.level_control.specs.Run.{Run, next_by, next, play}
 use Rattle.level_control.specs.declared.state.LevelControlState.{LevelControlState}
 use Rattle.level_theorems.proofs.Progress.{next_state_is}
 use Rattle.sheet.specs.Lines.{read_outcome, record_outcome, outcomes_of}
-use Rattle.record_theorems.specs.RecordPlays.{Record, bytes_of, answers_of, answer_to, state_after, accepts, turn_read, onward_read, seen, only_onward, all_refused, StartsAt, directly, after_on}
+use Rattle.record_theorems.specs.RecordPlays.{Record, bytes_of, answers_of, answer_to, state_after, accepts, kind_seen, onward_read, seen, only_onward, all_refused, StartsAt, directly, after_on}
 
 -- the events that records are read as; damaged ones are left out
 
-abbrev pub event_in : EventRead → List Event → List Event
-event_in (read.Event e) es = e ∷ es
-event_in read.RecordWrong es = es
+abbrev pub event_in : Option Event → List Event → List Event
+event_in (Some e) es = e ∷ es
+event_in None es = es
 
 abbrev pub events_of : List Record → List Event
 events_of [] = []
 events_of (b ∷ bs) = event_in (event_read b.bytes) (events_of bs)
 
 -- a damaged record leaves a run as it was
-damaged : (r : Run) → next_by false (refused r.state 1) turn.Other r ≡ r
+damaged : (r : Run) → next_by false (refused r.state 1) kind.StartUp r ≡ r
 damaged r =
     ap (λ (l : List ℕ). record { state = r.state; asked = l; answers = r.answers; pending = r.pending }) (append-nil r.asked)
 
-seen_goes_on : (bs : List Record) → ((r : Run) → seen r bs (answers_of r.state bs) ≡ play r (events_of bs)) → (r : Run) (x : EventRead)
-    → seen (next_by (accepts (read_outcome r.state x)) (read_outcome r.state x) (turn_read x) r) bs
+seen_goes_on : (bs : List Record) → ((r : Run) → seen r bs (answers_of r.state bs) ≡ play r (events_of bs)) → (r : Run) (x : Option Event)
+    → seen (next_by (accepts (read_outcome r.state x)) (read_outcome r.state x) (kind_seen x) r) bs
     (outcomes_of (read_outcome r.state x).state (bytes_of bs))
     ≡ play r (event_in x (events_of bs))
 unfolding next
-seen_goes_on bs same r (read.Event e) =
+seen_goes_on bs same r (Some e) =
     ap (λ (s : LevelControlState). seen (next r e) bs (outcomes_of s (bytes_of bs))) (sym (next_state_is r e)) ∙ same (next r e)
-seen_goes_on bs same r read.RecordWrong = ap (λ (x : Run). seen x bs (outcomes_of r.state (bytes_of bs))) (damaged r) ∙ same r
+seen_goes_on bs same r None = ap (λ (x : Run). seen x bs (outcomes_of r.state (bytes_of bs))) (damaged r) ∙ same r
 
 pub seen_is_play : (bs : List Record) (r : Run) → seen r bs (answers_of r.state bs) ≡ play r (events_of bs)
 unfolding outcomes_of record_outcome
 seen_is_play [] r = refl
 seen_is_play (b ∷ bs) r = seen_goes_on bs (seen_is_play bs) r (event_read b.bytes)
 
-onward_goes_on : (bs : List Record) → ((r : Run) → only_onward bs (answers_of r.state bs) ≡ run.only_onward r (events_of bs)) → (r : Run) (x : EventRead)
+onward_goes_on : (bs : List Record) → ((r : Run) → only_onward bs (answers_of r.state bs) ≡ run.only_onward r (events_of bs)) → (r : Run) (x : Option Event)
     → ((not (accepts (read_outcome r.state x)) || onward_read x) && only_onward bs (outcomes_of (read_outcome r.state x).state (bytes_of bs)))
     ≡ run.only_onward r (event_in x (events_of bs))
-onward_goes_on bs same r (read.Event e) =
+onward_goes_on bs same r (Some e) =
     ap (λ (y : Bool). (not (accepts (event_of r.state e)) || run.is_onward e.kind) && y)
     (ap (λ (s : LevelControlState). only_onward bs (outcomes_of s (bytes_of bs))) (sym (next_state_is r e)) ∙ same (next r e))
-onward_goes_on bs same r read.RecordWrong = same r
+onward_goes_on bs same r None = same r
 
 pub onward_is : (bs : List Record) (r : Run) → only_onward bs (answers_of r.state bs) ≡ run.only_onward r (events_of bs)
 unfolding outcomes_of record_outcome
@@ -62,20 +61,20 @@ onward_is [] r = refl
 onward_is (b ∷ bs) r = onward_goes_on bs (onward_is bs) r (event_read b.bytes)
 
 refused_goes_on : (bs : List Record) → ((s : LevelControlState) → all_refused (answers_of s bs) ≡ run.all_refused s (events_of bs))
-    → (s : LevelControlState) (x : EventRead)
+    → (s : LevelControlState) (x : Option Event)
     → (not (accepts (read_outcome s x)) && all_refused (outcomes_of (read_outcome s x).state (bytes_of bs))) ≡ run.all_refused s (event_in x (events_of bs))
-refused_goes_on bs same s (read.Event e) = ap (λ (y : Bool). not (accepts (event_of s e)) && y) (same (event_of s e).state)
-refused_goes_on bs same s read.RecordWrong = same s
+refused_goes_on bs same s (Some e) = ap (λ (y : Bool). not (accepts (event_of s e)) && y) (same (event_of s e).state)
+refused_goes_on bs same s None = same s
 
 refused_is : (bs : List Record) (s : LevelControlState) → all_refused (answers_of s bs) ≡ run.all_refused s (events_of bs)
 unfolding outcomes_of record_outcome
 refused_is [] s = refl
 refused_is (b ∷ bs) s = refused_goes_on bs (refused_is bs) s (event_read b.bytes)
 
-after_goes_on : (bs : List Record) → ((s : LevelControlState) → state_after s bs ≡ run.state_after s (events_of bs)) → (s : LevelControlState) (x : EventRead)
+after_goes_on : (bs : List Record) → ((s : LevelControlState) → state_after s bs ≡ run.state_after s (events_of bs)) → (s : LevelControlState) (x : Option Event)
     → state_after (read_outcome s x).state bs ≡ run.state_after s (event_in x (events_of bs))
-after_goes_on bs same s (read.Event e) = same (event_of s e).state
-after_goes_on bs same s read.RecordWrong = same s
+after_goes_on bs same s (Some e) = same (event_of s e).state
+after_goes_on bs same s None = same s
 
 after_is : (bs : List Record) (s : LevelControlState) → state_after s bs ≡ run.state_after s (events_of bs)
 unfolding record_outcome
@@ -94,7 +93,7 @@ later_is [] after s = refl
 later_is (b ∷ bs) after s = later_is bs after (answer_to s b).state
 
 -- a record that is read as an event is answered as the event
-pub answer_is : (s : LevelControlState) (b : Record) (e : Event) → event_read b.bytes ≡ read.Event e → answer_to s b ≡ event_of s e
+pub answer_is : (s : LevelControlState) (b : Record) (e : Event) → event_read b.bytes ≡ Some e → answer_to s b ≡ event_of s e
 unfolding record_outcome
 answer_is s b e p = ap (read_outcome s) p
 

@@ -1,4 +1,5 @@
 -- The theorems over records. Assumes nothing.
+use Rattle.std.specs.Prelude.{Option, Some, None}
 use Prim.Native.Nat.{ℕ, zero, suc, ◌/◌, ◌≤◌, zero-le}
 use mathlib.Core.Bool.{true}
 use mathlib.Core.Path.{◌≡◌, refl, sym, ap, subst, ◌∙◌}
@@ -12,11 +13,9 @@ use Rattle.transitions.specs.declared.settings.Settings.{Settings}
 use Rattle.records.specs.Events.{event_read}
 use Rattle.records.specs.Laws.{AllBytes}
 use Rattle.records.specs.Written.{event_record, EventFits}
-use Rattle.records.specs.declared.events.EventRead.{EventRead}
-use Rattle.records.specs.declared.events.EventRead.TheVariants as read
 use Rattle.records.proofs.WrittenLaws.{event_written}
 use Rattle.level_control.specs.Answer.{Outcome}
-use Rattle.level_control.specs.Demand3.{Shown}
+use Rattle.level_control.specs.EveryFade.{Shown}
 use Rattle.level_control.specs.Run as run
 use Rattle.level_control.specs.Run.{Run, Nothing, started, accepted, play}
 use Rattle.level_control.specs.State.{new_state}
@@ -24,19 +23,19 @@ use Rattle.level_control.specs.declared.state.LevelControlState.{LevelControlSta
 use Rattle.level_control.proofs.EveryFade.{every_fade}
 use Rattle.level_theorems.specs.Replies.{Ends, answers_from}
 use Rattle.level_theorems.proofs.Acceptance.{answers_accepted, wakes_accepted}
-use Rattle.level_theorems.proofs.Demand1Laws.{demand_1}
+use Rattle.level_theorems.proofs.EveryEventLaws.{every_event}
 use Rattle.level_theorems.proofs.Progress.{comes_to_rest}
 use Rattle.level_theorems.proofs.WaitsEnd.{waits_end}
 use Rattle.sheet.specs.Lines as lines
 use Rattle.sheet.specs.Lines.{read_outcome, record_outcome, outcomes_of, lines_from, text_of}
 use Rattle.sheet.proofs.LawsHold.{sheet_laws}
 use Rattle.record_theorems.specs.RecordPlays.{Record, bytes_of, answers_of, answer_to, accepts, seen, only_onward, StartsAt}
-use Rattle.record_theorems.specs.RecordTheorems.{RecordsOf, Demand1Recorded, later, EveryFadeRecorded, AnswerRecordsAccepted, WakeRecordsAccepted, RecordsComeToRest, RecordedWaitsEnd}
+use Rattle.record_theorems.specs.RecordTheorems.{RecordsOf, EveryEventRecorded, later, EveryFadeRecorded, AnswerRecordsAccepted, WakeRecordsAccepted, RecordsComeToRest, RecordedWaitsEnd}
 use Rattle.record_theorems.proofs.RecordRuns.{events_of, seen_is_play, onward_is, later_is, answer_is, start_state, starts_is}
 use Rattle.record_theorems.proofs.StartFits.{recorded_fits}
 use Rattle.record_theorems.proofs.WrittenRecords.{all_take, all_drop, Written, write_answers}
 
--- Demand 1.
+-- Every event.
 
 -- bytes cut into records
 abbrev cut : (k : ℕ) (s : List ℕ) → AllBytes s → List Record
@@ -67,21 +66,21 @@ refused_keeps : (s : LevelControlState) (b : Record) → ((answer_to s b).number
 unfolding record_outcome
 refused_keeps s b h = by (event_read b.bytes) h
   where
-    by : (x : EventRead) → ((read_outcome s x).number ≡ 0 → ⊥) → ((read_outcome s x).state ≡ s) × ((read_outcome s x).actions ≡ [])
-    by (read.Event e) h = demand_1.refused_keeps s e h
-    by read.RecordWrong h = (refl, refl)
+    by : (x : Option Event) → ((read_outcome s x).number ≡ 0 → ⊥) → ((read_outcome s x).state ≡ s) × ((read_outcome s x).actions ≡ [])
+    by (Some e) h = every_event.refused_keeps s e h
+    by None h = (refl, refl)
 
 at_most_seven : (s : LevelControlState) (b : Record) → length (answer_to s b).actions ≤ 7
 unfolding record_outcome
 at_most_seven s b = by (event_read b.bytes)
   where
-    by : (x : EventRead) → length (read_outcome s x).actions ≤ 7
-    by (read.Event e) = demand_1.at_most_seven s e
-    by read.RecordWrong = zero-le
+    by : (x : Option Event) → length (read_outcome s x).actions ≤ 7
+    by (Some e) = every_event.at_most_seven s e
+    by None = zero-le
 
-pub demand_1_recorded : Demand1Recorded
+pub every_event_recorded : EveryEventRecorded
 unfolding record_outcome
-demand_1_recorded = record {
+every_event_recorded = record {
   text_of_answers = text_of_answers;
   refused_keeps = refused_keeps;
   damaged = λ s b p. ap (read_outcome s) p;
@@ -89,7 +88,7 @@ demand_1_recorded = record {
   refused_call = sheet_laws.refused_keeps;
 }
 
--- Demand 3.
+-- Every fade.
 
 -- the answers after the start are those in the state that it left
 after_start : (x : Settings) (up after : List Record) (o : Outcome) (c t T : ℕ) → StartsAt (new_state x) up o c t T

@@ -83,9 +83,9 @@ named_bytes _ (level h) = (omega arith, (omega arith, tt))
 
 record_bytes : (e : Event) → Plain e.kind → AllBytes (event_record e)
 record_bytes e p =
-    all_take 20 (0x4C ∷ 0x45 ∷ kind_number e.kind ∷ bit e.on_off ∷ written.bytes_of 8 e.at.0 ++ named e.kind ++ replicate 8 0)
-    (small 0x4C (omega arith) also small 0x45 (omega arith) also kind_byte e.kind p also bit_byte e.on_off
-    also all_both (written.bytes_of 8 e.at.0) (named e.kind ++ replicate 8 0) (number_bytes 8 e.at.0)
+    all_take 20 (0x4C ∷ 0x45 ∷ kind_number e.kind ∷ bit e.moment.on_off ∷ written.bytes_of 8 e.moment.at.0 ++ named e.kind ++ replicate 8 0)
+    (small 0x4C (omega arith) also small 0x45 (omega arith) also kind_byte e.kind p also bit_byte e.moment.on_off
+    also all_both (written.bytes_of 8 e.moment.at.0) (named e.kind ++ replicate 8 0) (number_bytes 8 e.moment.at.0)
     (all_both (named e.kind) (replicate 8 0) (named_bytes e.kind p) (zero_bytes 8)))
 
 -- events as records, from which they are read again
@@ -97,9 +97,9 @@ pub record Written (es : List Event) : Type 0 where
 write : (es : List Event) → AllPlain es → in_time es ≡ true → Written es
 write [] p h = record { records = []; bytes = refl; read = refl }
 write (e ∷ es) p h =
-    let soon : e.at.0 ≤ latest.0 = leb-true e.at.0 latest.0 (and_first (leb e.at.0 latest.0) (in_time es) h) in
+    let soon : e.moment.at.0 ≤ latest.0 = leb-true e.moment.at.0 latest.0 (and_first (leb e.moment.at.0 latest.0) (in_time es) h) in
     let fits : EventFits e = record { time = omega arith; kind = plain_fits e.kind p.0 } in
-    let rest : Written es = write es p.1 (and_second (leb e.at.0 latest.0) (in_time es) h) in
+    let rest : Written es = write es p.1 (and_second (leb e.moment.at.0 latest.0) (in_time es) h) in
     record {
       records = record { bytes = event_record e; small = record_bytes e p.0 } ∷ rest.records;
       bytes = ap (λ (l : List (List ℕ)). event_record e ∷ l) rest.bytes;

@@ -1,8 +1,8 @@
--- The theorems over records are not empty: document 01's sheet, as bytes, with a damaged record among them.
+-- The theorems over records are not empty: the small play of Sheet, as bytes, with a damaged record added.
 use Rattle.std.specs.Prelude.{ℕ, true, ◌≡◌, List, [], ◌∷◌}
 use Rattle.transitions.specs.declared.settings.Settings.{Settings}
 use Rattle.level_control.specs.Answer.{Outcome}
-use Rattle.level_control.specs.Demand3.{Shown}
+use Rattle.level_control.specs.EveryFade.{Shown}
 use Rattle.level_control.specs.Run.{started}
 use Rattle.level_control.specs.State.{new_state}
 use Rattle.record_theorems.specs.RecordPlays.{Record, bytes_of, seen, only_onward, StartsAt}

@@ -1,20 +1,17 @@
--- A play of records, as it is seen: what the records are read as, and the answers that the lines of the sheet are made from.
-use Rattle.std.specs.Prelude.{ℕ, Bool, true, false, not, ◌&&◌, ◌||◌, ◌≡◌, List, [], ◌∷◌, ◌++◌, eqb}
-use Rattle.transitions.specs.Events.{turn_of}
+-- Every fade over records: what the records are read as, and the answers that the lines of the sheet are made from.
+use Rattle.std.specs.Prelude.{ℕ, Bool, true, false, not, ◌&&◌, ◌||◌, ◌≡◌, List, [], ◌∷◌, ◌++◌, eqb, Option, Some, None}
 use Rattle.transitions.specs.declared.events.DeviceAnswer.TheVariants as device
 use Rattle.transitions.specs.declared.events.Event.{Event}
+use Rattle.transitions.specs.declared.events.EventKind.{EventKind}
 use Rattle.transitions.specs.declared.events.EventKind.TheVariants as kind
-use Rattle.transitions.specs.declared.events.Turn.{Turn}
-use Rattle.transitions.specs.declared.events.Turn.TheVariants as turn
 use Rattle.records.specs.Events.{event_read}
 use Rattle.records.specs.Laws.{AllBytes}
-use Rattle.records.specs.declared.events.EventRead.{EventRead}
-use Rattle.records.specs.declared.events.EventRead.TheVariants as read
 use Rattle.level_control.specs.Answer.{Outcome}
 use Rattle.level_control.specs.Run.{Run, next_by, is_onward}
 use Rattle.level_control.specs.Starts.{Fades, start_of, on_start}
 use Rattle.level_control.specs.declared.state.LevelControlState.{LevelControlState}
 use Rattle.sheet.specs.Lines.{record_outcome, outcomes_of}
+use Rattle.transitions.specs.declared.events.Command.TheVariants as command
 
 -- a record as a lent slice holds it: bytes, right or damaged
 pub record Record : Type 0 where
@@ -41,19 +38,20 @@ state_after s (b ∷ bs) = state_after (answer_to s b).state bs
 abbrev pub accepts : Outcome → Bool
 accepts o = eqb o.number 0
 
-abbrev pub turn_read : EventRead → Turn
-turn_read (read.Event e) = turn_of e.kind
-turn_read read.RecordWrong = turn.Other
+-- whose request or wait it closes; a damaged record closes none, as a start-up
+abbrev pub kind_seen : Option Event → EventKind
+kind_seen (Some e) = e.kind
+kind_seen None = kind.StartUp
 
-abbrev pub onward_read : EventRead → Bool
-onward_read (read.Event e) = is_onward e.kind
-onward_read read.RecordWrong = false
+abbrev pub onward_read : Option Event → Bool
+onward_read (Some e) = is_onward e.kind
+onward_read None = false
 
 -- a run goes on with records and the answers to them
 abbrev pub seen : Run → List Record → List Outcome → Run
 seen r [] os = r
 seen r (b ∷ bs) [] = r
-seen r (b ∷ bs) (o ∷ os) = seen (next_by (accepts o) o (turn_read (event_read b.bytes)) r) bs os
+seen r (b ∷ bs) (o ∷ os) = seen (next_by (accepts o) o (kind_seen (event_read b.bytes)) r) bs os
 
 -- of the records only answers with a level and wakes are accepted
 abbrev pub only_onward : List Record → List Outcome → Bool
@@ -65,17 +63,17 @@ abbrev pub all_refused : List Outcome → Bool
 all_refused [] = true
 all_refused (o ∷ os) = not (accepts o) && all_refused os
 
--- the last of these records starts a fade from c to t in T tenths, with this answer: directly, as event 1, 3, 7 (off) or 8; or as the answer v to the
--- request for MIN, after event 7 (on) and any refused records
+-- the last of these records starts a fade from c to t in T tenths, with this answer: directly, as a move to level, a step, an off or a scene; or as the
+-- answer v to the request for MIN, after on and any refused records
 pub data StartsAt (start : LevelControlState) : List Record → Outcome → ℕ → ℕ → ℕ → Type 0 where
   directly : (earlier : List Record) (b : Record) (e : Event) (c t T : ℕ)
-      → event_read b.bytes ≡ read.Event e → accepts (answer_to (state_after start earlier) b) ≡ true
-      → start_of (state_after start earlier) e.on_off e.kind ≡ Fades c t T
+      → event_read b.bytes ≡ Some e → accepts (answer_to (state_after start earlier) b) ≡ true
+      → start_of (state_after start earlier) e.moment.on_off e.kind ≡ Fades c t T
       → StartsAt start (earlier ++ (b ∷ [])) (answer_to (state_after start earlier) b) c t T
   after_on : (earlier : List Record) (b : Record) (e : Event) (others : List Record) (b' : Record) (a : Event) (v c t T : ℕ)
-      → event_read b.bytes ≡ read.Event e → accepts (answer_to (state_after start earlier) b) ≡ true → e.kind ≡ kind.OnOffChanged true
+      → event_read b.bytes ≡ Some e → accepts (answer_to (state_after start earlier) b) ≡ true → e.kind ≡ kind.Command (command.OnOffChanged true)
       → all_refused (answers_of (answer_to (state_after start earlier) b).state others) ≡ true
-      → event_read b'.bytes ≡ read.Event a → accepts (answer_to (state_after start (earlier ++ (b ∷ others))) b') ≡ true
+      → event_read b'.bytes ≡ Some a → accepts (answer_to (state_after start (earlier ++ (b ∷ others))) b') ≡ true
       → a.kind ≡ kind.Answer (device.Level v)
       → on_start (state_after start earlier) v ≡ Fades c t T
       → StartsAt start ((earlier ++ (b ∷ others)) ++ (b' ∷ [])) (answer_to (state_after start (earlier ++ (b ∷ others))) b') c t T

@@ -1,5 +1,5 @@
--- The demands over records of bytes, damaged ones included, and over the answers that the text is made from.
-use Rattle.std.specs.Prelude.{ℕ, ◌+◌, ◌*◌, ◌^◌, ◌/◌, ◌≤◌, ◌<◌, Bool, true, ◌≡◌, List, [], ◌∷◌, ◌++◌, length, drop}
+-- Every event and Every fade over records of bytes, damaged ones included, and over the answers that the text is made from.
+use Rattle.std.specs.Prelude.{ℕ, ◌+◌, ◌*◌, ◌^◌, ◌/◌, ◌≤◌, ◌<◌, Bool, true, ◌≡◌, List, [], ◌∷◌, ◌++◌, length, drop, None, Ok, Err}
 use Rattle.units.specs.declared.Micros.{Micros}
 use Rattle.transitions.specs.Events.{event}
 use Rattle.transitions.specs.Tasks.{task_open}
@@ -11,28 +11,25 @@ use Rattle.transitions.specs.declared.tasks.Phase.TheVariants.{Waiting}
 use Rattle.records.specs.Events.{event_read}
 use Rattle.records.specs.Settings.{settings_read}
 use Rattle.records.specs.Written.{AnswerFits, event_record}
-use Rattle.records.specs.declared.events.EventRead.TheVariants as read
-use Rattle.records.specs.declared.settings.SettingsRead.TheVariants as settings
 use Rattle.level_control.specs.Answer.{Outcome, refused}
 use Rattle.level_control.specs.Causes.{latest}
-use Rattle.level_control.specs.Demand3.{Shown}
+use Rattle.level_control.specs.EveryFade.{Shown}
 use Rattle.level_control.specs.Run.{Nothing, started}
 use Rattle.level_control.specs.Starts.{distance}
 use Rattle.level_control.specs.State.{new_state}
 use Rattle.level_control.specs.declared.state.LevelControlState.{LevelControlState}
-use Rattle.level_theorems.specs.Demand1.{InPhase}
+use Rattle.level_theorems.specs.EveryEvent.{InPhase}
 use Rattle.level_theorems.specs.Replies.{Reply, answers_from, in_time, delays}
 use Rattle.sheet.specs.Lines as lines
 use Rattle.sheet.specs.Lines.{lines_from, text_of}
 use Rattle.sheet.specs.Play.{play_of}
-use Rattle.sheet.specs.declared.lines.Played.TheVariants.{Refused}
-use Rattle.sheet.specs.declared.lines.Refusal.{Refusal}
+use Rattle.sheet.specs.declared.refusal.Refusal.{Refusal}
 use Rattle.record_theorems.specs.RecordPlays.{Record, bytes_of, answers_of, answer_to, accepts, seen, only_onward, StartsAt}
 
 -- settings that are read from a record
 pub record Configured (x : Settings) : Type 0 where
   pub head : Record
-  pub read : settings_read head.bytes ≡ settings.Settings x
+  pub read : settings_read head.bytes ≡ Ok x
 
 -- the records of a call, 20 bytes after the other, and the text, which is made from the answers to them
 pub record RecordsOf (start : LevelControlState) (text : Record) : Type 0 where
@@ -41,31 +38,31 @@ pub record RecordsOf (start : LevelControlState) (text : Record) : Type 0 where
   pub each : length records ≡ length text.bytes / 20
   pub made : text_of start text.bytes ≡ lines_from 1 (answers_of start records)
 
--- Demand 1 over records.
-pub record Demand1Recorded : Type 0 where
+-- Every event over records.
+pub record EveryEventRecorded : Type 0 where
   -- The text of a play is made from the answers to its records, one for each 20 bytes.
   pub text_of_answers : (start : LevelControlState) (text : Record) → RecordsOf start text
   -- A record whose number is not 0, a damaged one or a refused event, leaves the state as it was and has no action.
   pub refused_keeps : (s : LevelControlState) (b : Record) → ((answer_to s b).number ≡ 0 → ⊥) → ((answer_to s b).state ≡ s) × ((answer_to s b).actions ≡ [])
   -- A damaged record is refused with number 1.
-  pub damaged : (s : LevelControlState) (b : Record) → event_read b.bytes ≡ read.RecordWrong → answer_to s b ≡ refused s 1
+  pub damaged : (s : LevelControlState) (b : Record) → event_read b.bytes ≡ None → answer_to s b ≡ refused s 1
   -- An answer has at most seven actions.
   pub at_most_seven : (s : LevelControlState) (b : Record) → length (answer_to s b).actions ≤ 7
-  -- No refused call alters the lent output.
-  pub refused_call : (records out : List ℕ) (why : Refusal) → (play_of records out).0 ≡ Refused why → (play_of records out).1 ≡ out
+  -- No refused call changes the lent output.
+  pub refused_call : (records out : List ℕ) (why : Refusal) → (play_of records out).0 ≡ Err why → (play_of records out).1 ≡ out
 
 -- the answers to the records after the start of a fade, as they stand in the list of all answers
 abbrev pub later : Settings → List Record → List Record → List Outcome
 later x up after = drop (length up) (answers_of (new_state x) (up ++ after))
 
--- Demand 3 over records: settings, records up to the start of a fade, and every list of records after it.
+-- Every fade over records: settings, records up to the start of a fade, and every list of records after it.
 abbrev pub EveryFadeRecorded : Type 0
 EveryFadeRecorded =
     (x : Settings) (up after : List Record) (o : Outcome) (c t T : ℕ)
     → Configured x → StartsAt (new_state x) up o c t T → (c ≡ t → ⊥) → 1 ≤ T → only_onward after (later x up after) ≡ true
     → Shown c t T (seen (started o) after (later x up after))
 
--- Progress over records: the record of an event is the one that document 01 gives it.
+-- Progress over records: the record of an event is the one that Records gives it.
 
 -- With a request open, the record of an answer at any time from the last accepted to 2^62 − 1 is accepted.
 abbrev pub AnswerRecordsAccepted : Type 0

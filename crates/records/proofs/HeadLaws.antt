@@ -1,70 +1,77 @@
 -- The event that a record is read as has the record's kind, time and on/off value. Assumes nothing.
 use Prim.Native.Nat.{ℕ, zero, suc, ◌+◌}
-use mathlib.Core.Bool.{Bool, true, false, cond, ◌&&◌}
+use mathlib.Core.Bool.{Bool, true, false, ◌&&◌}
 use mathlib.Core.Path.{◌≡◌, refl}
 use mathlib.Core.List.{List, [], ◌∷◌}
 use native.Mathlib.Nat.{zero-add, add-zero, add-suc, suc-add}
-use native.Mathlib.Omega.{arith}
 use lib.ListN.{get_or}
-use Rattle.units.specs.Units.{micros}
+use Rattle.std.specs.Prelude.{Option, Some, None, if◌then◌else◌}
+use Rattle.std.specs.Bool.{then_some}
+use Rattle.std.specs.Option.{option_map}
+use Rattle.units.specs.declared.Micros.{Micros}
 use Rattle.transitions.specs.Events.{event}
 use Rattle.transitions.specs.declared.events.Event.{Event}
 use Rattle.transitions.specs.declared.events.EventKind.{EventKind}
-use Rattle.records.specs.Bytes.{byte_at, le64, is_set, is_flag, has_marks}
-use Rattle.records.specs.Events.{event_if, start_up, move_to_level, move, step, stop, answer, wake, on_off_changed, scene, device_update, device_stop, set_on_level, set_default_move_rate, set_start_up_current_level, factory_reset, kinds, event_read}
+use Rattle.records.specs.Bytes.{byte_at, clock_time, is_set, is_flag, has_marks}
+use Rattle.records.specs.Events.{kinds, kind_read, event_read}
 use Rattle.records.specs.Written.{kind_number}
-use Rattle.records.specs.declared.events.EventRead.{EventRead}
-use Rattle.records.specs.declared.events.EventRead.TheVariants as read
 use Rattle.records.proofs.LayoutLaws.{◌also◌}
 
-abbrev Head : List ℕ → ℕ → Event → Type 0
-Head s n e = (kind_number e.kind ≡ n) × (e.at ≡ micros (le64 s 4)) × (e.on_off ≡ is_set s 3)
+-- what is true of the value, if there is one
+pub record Gives {A : Type 0} (o : Option A) (P : A → Type 0) : Type 0 where
+  pub value : (x : A) → o ≡ Some x → P x
 
-pub no_event : {A : Type 0} (e : Event) → read.RecordWrong ≡ read.Event e → A
-no_event e p = let z : ◌≡◌ {A = ℕ} 0 1 = cc in absurd (omega arith)
+pub then_gives : {A : Type 0} {P : A → Type 0} (right : Bool) (x : A) → P x → Gives (then_some right x) P
+then_gives true x p = record { value = λ y e. let same : x ≡ y = cc in rw (← same) p }
+then_gives false x p = record { value = λ y e. cc }
 
-pub same_event : (d e : Event) → read.Event d ≡ read.Event e → e ≡ d
-same_event d e p = cc
+pub map_gives : {A B : Type 0} {P : B → Type 0} (f : A → B) (o : Option A) → Gives o (λ x. P (f x)) → Gives (option_map f o) P
+map_gives f (Some x) p = record { value = λ y e. let same : f x ≡ y = cc in rw (← same) (p.value x refl) }
+map_gives f None p = record { value = λ y e. cc }
 
-if_head : (s : List ℕ) (right : Bool) (k : EventKind) (e : Event) → event_if s right k ≡ read.Event e → Head s (kind_number k) e
-unfolding event_if
-if_head s true k e p = rw (same_event (event (micros (le64 s 4)) (is_set s 3) k) e p) (refl, refl, refl)
-if_head s false k e p = no_event e p
+-- what is true of each kind of a list, with its number, is true of the one that is read
+module _ (P : ℕ → EventKind → Type 0) where
+  abbrev pub Each : ℕ → List (Option EventKind) → Type 0
+  Each n [] = Unit {0}
+  Each n (r ∷ rs) = Gives r (P n) × Each (suc n) rs
 
--- the kinds of a list, numbered from n on
-abbrev Numbered : List ℕ → ℕ → List EventRead → Type 0
-Numbered s n [] = Unit {0}
-Numbered s n (r ∷ rs) = ((e : Event) → r ≡ read.Event e → Head s n e) × Numbered s (suc n) rs
+  pub each_at : (n : ℕ) (rs : List (Option EventKind)) → Each n rs → (k : ℕ) (x : EventKind) → get_or rs k None ≡ Some x → P (n + k) x
+  each_at n [] a k x e = cc
+  each_at n (r ∷ rs) a zero x e = rw add-zero (a.0.value x e)
+  each_at n (r ∷ rs) a (suc k) x e = rw (add-suc, ← suc-add) (each_at (suc n) rs a.1 k x e)
 
-numbered_at : (s : List ℕ) (n : ℕ) (rs : List EventRead) → Numbered s n rs → (k : ℕ) (e : Event) → get_or rs k read.RecordWrong ≡ read.Event e → Head s (n + k) e
-numbered_at s n [] a k e p = no_event e p
-numbered_at s n (r ∷ rs) a zero e p = rw add-zero (a.0 e p)
-numbered_at s n (r ∷ rs) a (suc k) e p = rw (add-suc, ← suc-add) (numbered_at s (suc n) rs a.1 k e p)
+-- the parts of an event that is read
+read_by : (b : Bool) (at : Micros) (on : Bool) (o : Option EventKind) (e : Event) → (if b then option_map (event at on) o else None) ≡ Some e
+    → (o ≡ Some e.kind) × (e.moment.at ≡ at) × (e.moment.on_off ≡ on)
+read_by true at on (Some k) e p = let same : event at on k ≡ e = cc in rw (← same) (refl, refl, refl)
+read_by true at on None e p = cc
+read_by false at on o e p = cc
 
-numbered : (s : List ℕ) → Numbered s 0 (kinds s)
-unfolding start_up move_to_level move step stop answer wake on_off_changed scene device_update device_stop set_on_level set_default_move_rate set_start_up_current_level factory_reset
+pub parts : (s : List ℕ) (e : Event) → event_read s ≡ Some e → (get_or (kinds s) (byte_at s 2) None ≡ Some e.kind) × (e.moment.at ≡ clock_time s) × (e.moment.on_off ≡ is_set s 3)
+unfolding event_read kind_read
+parts s e p = read_by (has_marks s 0x45 && is_flag s 3) (clock_time s) (is_set s 3) (get_or (kinds s) (byte_at s 2) None) e p
+
+numbered : (s : List ℕ) → Each (λ n k. kind_number k ≡ n) 0 (kinds s)
 numbered s =
-    if_head s _ _
-    also if_head s _ _
-    also if_head s _ _
-    also if_head s _ _
-    also if_head s _ _
-    also if_head s _ _
-    also if_head s _ _
-    also if_head s _ _
-    also if_head s _ _
-    also if_head s _ _
-    also if_head s _ _
-    also if_head s _ _
-    also if_head s _ _
-    also if_head s _ _
-    also if_head s _ _
+    then_gives _ _ refl
+    also map_gives _ _ (then_gives _ _ refl)
+    also map_gives _ _ (then_gives _ _ refl)
+    also map_gives _ _ (then_gives _ _ refl)
+    also map_gives _ _ (then_gives _ _ refl)
+    also map_gives _ _ (then_gives _ _ refl)
+    also then_gives _ _ refl
+    also map_gives _ _ (then_gives _ _ refl)
+    also map_gives _ _ (then_gives _ _ refl)
+    also map_gives _ _ (then_gives _ _ refl)
+    also map_gives _ _ (then_gives _ _ refl)
+    also map_gives _ _ (map_gives _ _ (then_gives _ _ refl))
+    also map_gives _ _ (map_gives _ _ (then_gives _ _ refl))
+    also map_gives _ _ (map_gives _ _ (then_gives _ _ refl))
+    also map_gives _ _ (then_gives _ _ refl)
     also tt
 
-pub headed : (r : EventRead) (b : Bool) (e : Event) → cond b r read.RecordWrong ≡ read.Event e → r ≡ read.Event e
-headed r true e p = p
-headed r false e p = no_event e p
-
-pub event_head : (s : List ℕ) (e : Event) → event_read s ≡ read.Event e → Head s (byte_at s 2) e
-unfolding event_read
-event_head s e p = rw zero-add at (numbered_at s 0 (kinds s) (numbered s) (byte_at s 2) e (headed (get_or (kinds s) (byte_at s 2) read.RecordWrong) (has_marks s 0x45 && is_flag s 3) e p))
+pub event_head : (s : List ℕ) (e : Event) → event_read s ≡ Some e
+    → (kind_number e.kind ≡ byte_at s 2) × (e.moment.at ≡ clock_time s) × (e.moment.on_off ≡ is_set s 3)
+event_head s e p =
+    let q = parts s e p in
+    (rw zero-add at (each_at (λ n k. kind_number k ≡ n) 0 (kinds s) (numbered s) (byte_at s 2) e.kind q.0), q.1, q.2)

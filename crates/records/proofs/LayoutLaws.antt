@@ -1,6 +1,6 @@
 -- The definitions ask of a record exactly what the table of layouts says. Assumes nothing.
 use Prim.Native.Nat.{ℕ, zero, suc, ◌+◌, ◌-◌, ◌≤◌, ◌<◌}
-use mathlib.Core.Bool.{Bool, true, false, ◌&&◌, cond, and-true, false≢true}
+use mathlib.Core.Bool.{Bool, true, false, ◌&&◌, and-true}
 use mathlib.Core.Path.{◌≡◌, refl, sym, ap, ◌∙◌}
 use mathlib.Core.Logic.{◌↔◌}
 use mathlib.Core.List.{List, [], ◌∷◌}
@@ -9,41 +9,43 @@ use borrow.Author.Tests.{leb-true, le-leb, eqb-true, eq-eqb, not-false}
 use lib.Dec.{leb, ltb, eqb}
 use lib.ListN.{length, get_or, drop, drop_of_length-le}
 use lib.Seq.{get_or-drop}
+use Rattle.std.specs.Prelude.{Option, Some, None, is_some, if◌then◌else◌, Ok, Err}
+use Rattle.std.specs.Bool.{then_some}
+use Rattle.std.specs.List.{list_all}
+use Rattle.std.specs.Option.{option_map}
+use Rattle.transitions.specs.declared.events.Event.{Event}
 use Rattle.transitions.specs.declared.events.EventKind.{EventKind}
-use Rattle.transitions.specs.Causes.{first_cause}
 use Rattle.transitions.specs.declared.settings.Settings.{Settings}
+use Rattle.transitions.specs.Causes.{first_cause}
 use Rattle.transitions.proofs.Booleans.{and_first, and_second, and_both}
-use Rattle.records.specs.Bytes.{byte_at, is_flag, is_set, all_zero, zeros_from, has_marks}
+use Rattle.records.specs.Bytes.{byte_at, is_flag, zeros_from, has_marks}
 use Rattle.records.specs.Settings.{settings_wrong, settings_at, settings_read, settings_read_number}
-use Rattle.records.specs.Events.{event_if, start_up, move_to_level, move, step, stop, answer, wake, on_off_changed, scene, device_update, device_stop, set_on_level, set_default_move_rate, set_start_up_current_level, factory_reset, kinds, event_read, event_read_number}
+use Rattle.records.specs.Events.{kinds, kind_read, event_read, event_read_number}
 use Rattle.records.specs.Layout.{Limit, Layout, layout, settings_layout, event_layouts, Within, Keeps, Marked}
 use Rattle.records.specs.Laws.{settings_causes, settings_tests}
-use Rattle.records.specs.declared.events.EventRead.{EventRead}
-use Rattle.records.specs.declared.events.EventRead.TheVariants.{RecordWrong}
-use Rattle.records.specs.declared.settings.SettingsRead.TheVariants as read
+use Rattle.records.specs.declared.settings.SettingsRefusal.TheVariants.{RecordWrong, MaxAbove254, MinAboveMax, LightingMin0}
 
 -- the unnamed bytes
 
+abbrev all_zero : List ℕ → Bool
+all_zero s = list_all (λ byte. eqb byte 0) s
+
 all_zero_at : (s : List ℕ) → all_zero s ≡ true → (i : ℕ) → byte_at s i ≡ 0
-unfolding all_zero
 all_zero_at [] e i = refl
 all_zero_at (b ∷ s) e zero = eqb-true b 0 (and_first (eqb b 0) (all_zero s) e)
 all_zero_at (b ∷ s) e (suc i) = all_zero_at s (and_second (eqb b 0) (all_zero s) e) i
 
 zero_all : (s : List ℕ) → ((i : ℕ) → byte_at s i ≡ 0) → all_zero s ≡ true
-unfolding all_zero
 zero_all [] z = refl
 zero_all (b ∷ s) z = and_both (eqb b 0) (all_zero s) (eq-eqb b 0 (z 0)) (zero_all s (λ i. z (suc i)))
 
 module _ (s : List ℕ) where
   zeros : (n : ℕ) → zeros_from s n ≡ true → (i : ℕ) → n ≤ i → byte_at s i ≡ 0
-  unfolding zeros_from
   zeros n e i h =
       let place : n + (i - n) ≡ i = omega arith in
       sym (ap (byte_at s) place) ∙ sym (get_or-drop n s (i - n) 0) ∙ all_zero_at (drop n s) e (i - n)
 
   from_zeros : (n : ℕ) → ((i : ℕ) → n ≤ i → byte_at s i ≡ 0) → zeros_from s n ≡ true
-  unfolding zeros_from
   from_zeros n z = zero_all (drop n s) (λ i. get_or-drop n s i 0 ∙ z (n + i) (omega arith))
 
   abbrev under : Limit → Bool
@@ -79,7 +81,6 @@ module _ (s : List ℕ) where
   )
 
   pub marked : (mark : ℕ) → (has_marks s mark ≡ true) ↔ Marked s mark
-  unfolding has_marks
   marked mark = (
     (λ e. let two = and_first (eqb (length s) 20 && eqb (byte_at s 0) 0x4C) (eqb (byte_at s 1) mark) e in record {
       whole = eqb-true (length s) 20 (and_first (eqb (length s) 20) (eqb (byte_at s 0) 0x4C) two);
@@ -92,13 +93,11 @@ module _ (s : List ℕ) where
   )
 
 flagged : (s : List ℕ) (i : ℕ) → (is_flag s i ≡ true) ↔ (byte_at s i ≤ 1)
-unfolding is_flag
 flagged s i = (leb-true (byte_at s i) 1, le-leb (byte_at s i) 1)
 
 -- Settings.
 
 pub settings_right : (s : List ℕ) → (settings_wrong s ≡ false) ↔ (Marked s 0x47 × Keeps s settings_layout)
-unfolding settings_wrong is_flag
 settings_right s = (
   (λ e. let right = not-false (has_marks s 0x47 && keeps s settings_layout) e in
       ((marked s 0x47).0 (and_first (has_marks s 0x47) (keeps s settings_layout) right), (kept s settings_layout).0 (and_second (has_marks s 0x47) (keeps s settings_layout) right))),
@@ -106,7 +105,7 @@ settings_right s = (
 )
 
 first : (wrong above under dark : Bool) (x : Settings)
-    → settings_read_number (cond wrong read.RecordWrong (cond above read.MaxAbove254 (cond under read.MinAboveMax (cond dark read.LightingMin0 (read.Settings x)))))
+    → settings_read_number (if wrong then Err RecordWrong else if above then Err MaxAbove254 else if under then Err MinAboveMax else if dark then Err LightingMin0 else Ok x)
     ≡ first_cause (settings_causes wrong above under dark)
 unfolding first_cause
 first true above under dark x = refl
@@ -116,7 +115,7 @@ first false false false true x = refl
 first false false false false x = refl
 
 pub settings_number : (s : List ℕ) → settings_read_number (settings_read s) ≡ first_cause (settings_tests s)
-unfolding settings_read is_set
+unfolding settings_read
 settings_number s = first (settings_wrong s) (ltb 254 (byte_at s 3)) (ltb (byte_at s 3) (byte_at s 2)) (eqb (byte_at s 18) 1 && eqb (byte_at s 2) 0) (settings_at s)
 
 -- Events.
@@ -125,74 +124,72 @@ infixr 20 ◌also◌
 pub ◌also◌ : {A B : Type 0} → A → B → A × B
 a also b = (a, b)
 
-if_number : (s : List ℕ) (right : Bool) (k : EventKind) → (event_read_number (event_if s right k) ≡ 0) ↔ (right ≡ true)
-unfolding event_if
-if_number s true k = (λ e. refl, λ e. refl)
-if_number s false k = (λ e. absurd (omega arith), λ e. absurd (false≢true e))
+some_then : {A : Type 0} (right : Bool) (x : A) → is_some (then_some right x) ≡ right
+some_then true x = refl
+some_then false x = refl
+
+some_map : {A B : Type 0} (f : A → B) (o : Option A) → is_some (option_map f o) ≡ is_some o
+some_map f (Some x) = refl
+some_map f None = refl
 
 -- the two lists say the same, place by place
-abbrev Agree : List ℕ → List EventRead → List Layout → Type 0
+abbrev Agree : List ℕ → List (Option EventKind) → List Layout → Type 0
 Agree s [] [] = Unit {0}
 Agree s [] (l ∷ ls) = ⊥
 Agree s (r ∷ rs) [] = ⊥
-Agree s (r ∷ rs) (l ∷ ls) = ((event_read_number r ≡ 0) ↔ (keeps s l ≡ true)) × Agree s rs ls
+Agree s (r ∷ rs) (l ∷ ls) = (is_some r ≡ keeps s l) × Agree s rs ls
 
-agree_at : (s : List ℕ) (rs : List EventRead) (ls : List Layout) → Agree s rs ls → (k : ℕ) → k < length rs
-    → (event_read_number (get_or rs k RecordWrong) ≡ 0) ↔ (keeps s (get_or ls k (layout [] 0)) ≡ true)
+agree_at : (s : List ℕ) (rs : List (Option EventKind)) (ls : List Layout) → Agree s rs ls → (k : ℕ) → k < length rs
+    → is_some (get_or rs k None) ≡ keeps s (get_or ls k (layout [] 0))
 agree_at s [] ls a k h = absurd (omega arith)
 agree_at s (r ∷ rs) [] a k h = absurd a
 agree_at s (r ∷ rs) (l ∷ ls) a zero h = a.0
 agree_at s (r ∷ rs) (l ∷ ls) a (suc k) h = agree_at s rs ls a.1 k (omega arith)
 
--- a step has no unnamed byte
-step_number : (s : List ℕ) → length s ≡ 20 → (event_read_number (step s) ≡ 0) ↔ (keeps s (get_or event_layouts 3 (layout [] 0)) ≡ true)
-unfolding step is_flag zeros_from all_zero
-step_number s h = rw (drop_of_length-le s {i = 20} (omega arith), and-true) (if_number s _ _)
-
 agree : (s : List ℕ) → length s ≡ 20 → Agree s (kinds s) event_layouts
-unfolding start_up move_to_level move stop answer wake on_off_changed scene device_update device_stop set_on_level set_default_move_rate set_start_up_current_level factory_reset is_flag
-agree s h =
-    if_number s _ _
-    also if_number s _ _
-    also if_number s _ _
-    also step_number s h
-    also if_number s _ _
-    also if_number s _ _
-    also if_number s _ _
-    also if_number s _ _
-    also if_number s _ _
-    also if_number s _ _
-    also if_number s _ _
-    also if_number s _ _
-    also if_number s _ _
-    also if_number s _ _
-    also if_number s _ _
-    also tt
+agree s h = rw (drop_of_length-le s {i = 20} (omega arith), and-true) (
+    some_then _ _
+    also (some_map _ _ ∙ some_then _ _)
+    also (some_map _ _ ∙ some_then _ _)
+    also (some_map _ _ ∙ some_then _ _)
+    also (some_map _ _ ∙ some_then _ _)
+    also (some_map _ _ ∙ some_then _ _)
+    also some_then _ _
+    also (some_map _ _ ∙ some_then _ _)
+    also (some_map _ _ ∙ some_then _ _)
+    also (some_map _ _ ∙ some_then _ _)
+    also (some_map _ _ ∙ some_then _ _)
+    also (some_map _ _ ∙ some_map _ _ ∙ some_then _ _)
+    also (some_map _ _ ∙ some_map _ _ ∙ some_then _ _)
+    also (some_map _ _ ∙ some_map _ _ ∙ some_then _ _)
+    also (some_map _ _ ∙ some_then _ _)
+    also tt)
 
 -- what is read as an event is one of the kinds
-a_kind : (rs : List EventRead) (k : ℕ) → event_read_number (get_or rs k RecordWrong) ≡ 0 → k < length rs
-a_kind [] k e = absurd (omega arith)
+a_kind : (rs : List (Option EventKind)) (k : ℕ) → is_some (get_or rs k None) ≡ true → k < length rs
+a_kind [] k e = cc
 a_kind (r ∷ rs) zero e = omega arith
 a_kind (r ∷ rs) (suc k) e = omega (arith, a_kind rs k e)
 
+-- a record that is read as an event has its marks, and byte 3 is a flag
+headed : (f : EventKind → Event) (b : Bool) (o : Option EventKind)
+    → (event_read_number (if b then option_map f o else None) ≡ 0) ↔ ((b ≡ true) × (is_some o ≡ true))
+headed f true (Some k) = (λ e. (refl, refl), λ e. refl)
+headed f true None = (λ e. absurd (omega arith), λ e. cc)
+headed f false o = (λ e. absurd (omega arith), λ e. cc)
+
 module _ (s : List ℕ) where
-  abbrev head : Bool
-  head = has_marks s 0x45 && is_flag s 3
-
-  -- a record that is read as an event has its marks, and byte 3 is a flag
-  headed : (r : EventRead) (b : Bool) → event_read_number (cond b r RecordWrong) ≡ 0 → (b ≡ true) × (event_read_number r ≡ 0)
-  headed r true e = (refl, e)
-  headed r false e = absurd (omega arith)
-
   pub event_right : (event_read_number (event_read s) ≡ 0)
       ↔ (Marked s 0x45 × (byte_at s 3 ≤ 1) × (byte_at s 2 < 15) × Keeps s (get_or event_layouts (byte_at s 2) (layout [] 0)))
-  unfolding event_read
+  unfolding event_read kind_read
   event_right = (
     (λ e.
-        let r = get_or (kinds s) (byte_at s 2) RecordWrong in
-        let h = headed r head e in
+        let h = (headed _ (has_marks s 0x45 && is_flag s 3) (get_or (kinds s) (byte_at s 2) None)).0 e in
         let m = (marked s 0x45).0 (and_first (has_marks s 0x45) (is_flag s 3) h.0) in
         let known = a_kind (kinds s) (byte_at s 2) h.1 in
-        (m, (flagged s 3).0 (and_second (has_marks s 0x45) (is_flag s 3) h.0), known, (kept s _).0 ((agree_at s (kinds s) event_layouts (agree s m.whole) (byte_at s 2) known).0 h.1))),
-    (λ k. rw ((marked s 0x45).1 k.0, (flagged s 3).1 k.1) ((agree_at s (kinds s) event_layouts (agree s k.0.whole) (byte_at s 2) k.2).1 ((kept s _).1 k.3))),
+        (m, (flagged s 3).0 (and_second (has_marks s 0x45) (is_flag s 3) h.0), known, (kept s _).0 (sym (agree_at s (kinds s) event_layouts (agree s m.whole) (byte_at s 2) known) ∙ h.1))),
+    (λ k. (headed _ (has_marks s 0x45 && is_flag s 3) (get_or (kinds s) (byte_at s 2) None)).1 (
+      and_both (has_marks s 0x45) (is_flag s 3) ((marked s 0x45).1 k.0) ((flagged s 3).1 k.1),
+      agree_at s (kinds s) event_layouts (agree s k.0.whole) (byte_at s 2) k.2 ∙ (kept s _).1 k.3,
+    )),
   )

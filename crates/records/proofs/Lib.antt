@@ -1,5 +1,3 @@
-pub mod ByteLaws
-pub mod EventLaws
 pub mod NumberLaws
 pub mod LayoutLaws
 pub mod HeadLaws
@@ -7,3 +5,4 @@ pub mod FitLaws
 pub mod MissingLaws
 pub mod WrittenLaws
 pub mod RecordLaws
+pub mod KindLaws

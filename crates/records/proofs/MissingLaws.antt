@@ -9,13 +9,12 @@ use borrow.Author.Tests.{eqb-true, eqb-false, ne_eqb}
 use lib.Dec.{eqb}
 use lib.ListN.{length, drop, drop_of_length-le}
 use lib.Seq.{drop-cons}
-use Rattle.records.specs.Bytes.{byte_at, is_flag, is_set, all_zero, zeros_from, has_marks}
-use Rattle.records.specs.Values.{level_if, rate_if, time_if}
-use Rattle.records.specs.Settings.{settings_wrong, attributes_at, settings_at, settings_read}
-use Rattle.records.specs.Events.{event_if, move_to_level, move, step, answer_at, answer, scene, set_on_level, set_default_move_rate, set_start_up_current_level, event_read}
+use Rattle.std.specs.Prelude.{None, Err}
+use Rattle.records.specs.Bytes.{byte_at}
+use Rattle.records.specs.Settings.{settings_read}
+use Rattle.records.specs.Events.{kind_read, event_read}
 use Rattle.records.specs.Layout.{MissingInEvent, TimeOfMoveToLevel, RateOfMove, TimeOfStep, LevelOfAnswer, LevelOfScene, OnLevelSet, DefaultRateSet, StartUpLevelSet, MissingInSettings, LevelUnknown, OnLevelUnknown, StartUpLevelUnknown, DefaultRateUnknown, OnTimeUnknown, OffTimeUnknown, SameBut}
-use Rattle.records.specs.declared.events.EventRead.TheVariants as event
-use Rattle.records.specs.declared.settings.SettingsRead.TheVariants as settings
+use Rattle.records.specs.declared.settings.SettingsRefusal.TheVariants.{RecordWrong}
 
 -- the values of f at n places from i on
 abbrev table : (ℕ → ℕ) → ℕ → ℕ → List ℕ
@@ -54,35 +53,35 @@ module _ {A : Type 0} (read : List ℕ → A) (s t : List ℕ) (from n rest : �
 
 module _ (f g : ℕ → ℕ) where
   move_to_level_time : f 2 ≡ 1 → f 14 ≡ 0 → event_read (mixed f f 15 2 3) ≡ event_read (mixed f g 15 2 3)
-  unfolding event_read has_marks is_flag is_set zeros_from all_zero event_if move_to_level time_if
+  unfolding event_read kind_read
   move_to_level_time k m = rw (k, m)
 
   move_rate_ignored : f 2 ≡ 2 → f 14 ≡ 0 → event_read (mixed f f 15 1 4) ≡ event_read (mixed f g 15 1 4)
-  unfolding event_read has_marks is_flag is_set zeros_from all_zero event_if move rate_if
+  unfolding event_read kind_read
   move_rate_ignored k m = rw (k, m)
 
   step_time_ignored : f 2 ≡ 3 → f 15 ≡ 0 → event_read (mixed f f 16 2 2) ≡ event_read (mixed f g 16 2 2)
-  unfolding event_read has_marks is_flag is_set zeros_from all_zero event_if step time_if
+  unfolding event_read kind_read
   step_time_ignored k m = rw (k, m)
 
   answer_level : f 2 ≡ 5 → (f 12 ≡ 0 → ⊥) → event_read (mixed f f 13 1 6) ≡ event_read (mixed f g 13 1 6)
-  unfolding event_read has_marks is_flag is_set zeros_from all_zero event_if answer answer_at
+  unfolding event_read kind_read
   answer_level k m = rw (k, ne_eqb (f 12) 0 m)
 
   scene_level_ignored : f 2 ≡ 8 → f 12 ≡ 0 → event_read (mixed f f 13 1 6) ≡ event_read (mixed f g 13 1 6)
-  unfolding event_read has_marks is_flag is_set zeros_from all_zero event_if scene level_if
+  unfolding event_read kind_read
   scene_level_ignored k m = rw (k, m)
 
   on_level : f 2 ≡ 11 → f 12 ≡ 0 → event_read (mixed f f 13 1 6) ≡ event_read (mixed f g 13 1 6)
-  unfolding event_read has_marks is_flag is_set zeros_from all_zero event_if set_on_level level_if
+  unfolding event_read kind_read
   on_level k m = rw (k, m)
 
   default_rate : f 2 ≡ 12 → f 12 ≡ 0 → event_read (mixed f f 13 1 6) ≡ event_read (mixed f g 13 1 6)
-  unfolding event_read has_marks is_flag is_set zeros_from all_zero event_if set_default_move_rate rate_if
+  unfolding event_read kind_read
   default_rate k m = rw (k, m)
 
   start_up_level_ignored : f 2 ≡ 13 → f 12 ≡ 0 → event_read (mixed f f 13 1 6) ≡ event_read (mixed f g 13 1 6)
-  unfolding event_read has_marks is_flag is_set zeros_from all_zero event_if set_start_up_current_level level_if
+  unfolding event_read kind_read
   start_up_level_ignored k m = rw (k, m)
 
 event_20 : {from to : ℕ} (s t : List ℕ) → length s ≡ 20 → MissingInEvent s from to → SameBut from to s t → event_read s ≡ event_read t
@@ -99,8 +98,8 @@ by_length : {G : Type 0} (s : List ℕ) (b : Bool) → eqb (length s) 20 ≡ b �
 by_length s true e f g = f (eqb-true (length s) 20 e)
 by_length s false e f g = g (eqb-false (length s) 20 e)
 
-event_other : (s : List ℕ) → (length s ≡ 20 → ⊥) → event_read s ≡ event.RecordWrong
-unfolding event_read has_marks
+event_other : (s : List ℕ) → (length s ≡ 20 → ⊥) → event_read s ≡ None
+unfolding event_read kind_read
 event_other s n = rw (ne_eqb (length s) 20 n)
 
 pub event_ignores : (s t : List ℕ) (from to : ℕ) → MissingInEvent s from to → SameBut from to s t → event_read s ≡ event_read t
@@ -112,27 +111,27 @@ event_ignores s t from to m b = by_length s (eqb (length s) 20) refl
 
 module _ (f g : ℕ → ℕ) where
   settings_level : f 11 % 2 ≡ 0 → settings_read (mixed f f 7 1 12) ≡ settings_read (mixed f g 7 1 12)
-  unfolding settings_read settings_wrong has_marks is_flag is_set zeros_from all_zero settings_at attributes_at level_if
-  settings_level m = rw m
+  unfolding settings_read
+  settings_level m = let first : f 11 / 1 % 2 ≡ 0 = omega (arith, m) in rw first
 
   settings_on_level : f 11 / 2 % 2 ≡ 0 → settings_read (mixed f f 8 1 11) ≡ settings_read (mixed f g 8 1 11)
-  unfolding settings_read settings_wrong has_marks is_flag is_set zeros_from all_zero settings_at attributes_at level_if
+  unfolding settings_read
   settings_on_level m = rw m
 
   settings_start_up : f 11 / 4 % 2 ≡ 0 → settings_read (mixed f f 9 1 10) ≡ settings_read (mixed f g 9 1 10)
-  unfolding settings_read settings_wrong has_marks is_flag is_set zeros_from all_zero settings_at attributes_at level_if
+  unfolding settings_read
   settings_start_up m = rw m
 
   settings_rate : f 11 / 8 % 2 ≡ 0 → settings_read (mixed f f 10 1 9) ≡ settings_read (mixed f g 10 1 9)
-  unfolding settings_read settings_wrong has_marks is_flag is_set zeros_from all_zero settings_at attributes_at rate_if
+  unfolding settings_read
   settings_rate m = rw m
 
   settings_on_time : f 11 / 16 % 2 ≡ 0 → settings_read (mixed f f 14 2 4) ≡ settings_read (mixed f g 14 2 4)
-  unfolding settings_read settings_wrong has_marks is_flag is_set zeros_from all_zero settings_at attributes_at time_if
+  unfolding settings_read
   settings_on_time m = rw m
 
   settings_off_time : f 11 / 32 % 2 ≡ 0 → settings_read (mixed f f 16 2 2) ≡ settings_read (mixed f g 16 2 2)
-  unfolding settings_read settings_wrong has_marks is_flag is_set zeros_from all_zero settings_at attributes_at time_if
+  unfolding settings_read
   settings_off_time m = rw m
 
 settings_20 : {from to : ℕ} (s t : List ℕ) → length s ≡ 20 → MissingInSettings s from to → SameBut from to s t → settings_read s ≡ settings_read t
@@ -143,8 +142,8 @@ settings_20 s t w (DefaultRateUnknown m) b = ignores settings_read s t 10 1 9 re
 settings_20 s t w (OnTimeUnknown m) b = ignores settings_read s t 14 2 4 refl w b (settings_on_time (byte_at s) (byte_at t) m)
 settings_20 s t w (OffTimeUnknown m) b = ignores settings_read s t 16 2 2 refl w b (settings_off_time (byte_at s) (byte_at t) m)
 
-settings_other : (s : List ℕ) → (length s ≡ 20 → ⊥) → settings_read s ≡ settings.RecordWrong
-unfolding settings_read settings_wrong has_marks
+settings_other : (s : List ℕ) → (length s ≡ 20 → ⊥) → settings_read s ≡ Err RecordWrong
+unfolding settings_read
 settings_other s n = rw (ne_eqb (length s) 20 n)
 
 pub settings_ignores : (s t : List ℕ) (from to : ℕ) → MissingInSettings s from to → SameBut from to s t → settings_read s ≡ settings_read t

@@ -1,4 +1,4 @@
--- The records in document 01's words: proofs of specs/Laws.antt. Assumes nothing.
+-- Records, as laws: proofs of specs/Laws.antt. Assumes nothing.
 use Rattle.records.specs.Laws.{Laws}
 use Rattle.records.proofs.NumberLaws.{low_first_bytes, below}
 use Rattle.records.proofs.LayoutLaws.{settings_right, settings_number, event_right}

@@ -1,135 +1,127 @@
--- Event: "4C 45; 2 kind; 3 on/off; 4 to 11 time in µs; from 12" what its kind says.
-use Rattle.std.specs.Prelude.{ℕ, Bool, cond, ◌&&◌, List, [], ◌∷◌, leb, eqb, get_or}
-use Rattle.units.specs.Units.{micros, millis}
+-- Records, events: what a record says, by its kind.
+use Rattle.std.specs.Prelude.{ℕ, Bool, if◌then◌else◌, ◌&&◌, List, [], ◌∷◌, nat_le, nat_eq, get_or, Option, Some, None}
+use Rattle.std.specs.Bool.{then_some}
+use Rattle.std.specs.Option.{option_map}
+use Rattle.units.specs.Units.{millis}
 use Rattle.transitions.specs.Events.{event}
+use Rattle.transitions.specs.declared.events.Command.{Command}
+use Rattle.transitions.specs.declared.events.Command.TheVariants as command
 use Rattle.transitions.specs.declared.events.DeviceAnswer.{DeviceAnswer}
 use Rattle.transitions.specs.declared.events.DeviceAnswer.TheVariants as device
+use Rattle.transitions.specs.declared.events.Event.{Event}
 use Rattle.transitions.specs.declared.events.EventKind.{EventKind}
 use Rattle.transitions.specs.declared.events.EventKind.TheVariants as kind
-use Rattle.records.specs.Bytes.{byte_at, le16, le32, le64, is_flag, is_set, zeros_from, has_marks}
-use Rattle.records.specs.Values.{level_if, rate_if, time_if, mode_of, options}
-use Rattle.records.specs.declared.events.EventRead.{EventRead}
-use Rattle.records.specs.declared.events.EventRead.TheVariants.{Event, RecordWrong}
+use Rattle.transitions.specs.declared.options.CommandOptions.{CommandOptions}
+use Rattle.transitions.specs.declared.types.Mode.{Mode}
+use Rattle.transitions.specs.declared.types.Mode.TheVariants.{Up, Down}
+use Rattle.records.specs.Bytes.{byte_at, clock_time, le32, tenths_at, is_flag, is_set, zeros_from, has_marks}
 
--- an event of a kind, with the record's time and on/off value, where the bytes from 12 on are right
-unfoldable pub event_if : List ℕ → Bool → EventKind → EventRead
-event_if s right k = cond right (Event (event (micros (le64 s 4)) (is_set s 3) k)) RecordWrong
+-- 0 up, 1 down
+abbrev pub mode_of : Bool → Mode
+mode_of down = if down then Down else Up
 
--- The kinds, from byte 12 on.
+abbrev pub mode_at : ℕ → Option Mode
+mode_at byte = then_some (nat_le byte 1) (mode_of (nat_eq byte 1))
 
--- "0 start-up"
-unfoldable pub start_up : List ℕ → EventRead
-start_up s = event_if s (zeros_from s 12) kind.StartUp
+-- the byte with on/off, the mask and the override
+abbrev pub options_of : ℕ → ℕ → ℕ → CommandOptions
+options_of with_on_off mask over = record {
+  with_on_off = nat_eq with_on_off 1;
+  options_mask = record { 0 = mask };
+  options_override = record { 0 = over };
+}
 
--- "1 move to level (with-on-off, level, known, time 2, mask, override)"
-unfoldable pub move_to_level : List ℕ → EventRead
-move_to_level s = event_if s (is_flag s 12 && is_flag s 14 && zeros_from s 19) (kind.MoveToLevel (record {
-  with_on_off = is_set s 12;
+abbrev pub command_options : ℕ → ℕ → ℕ → Option CommandOptions
+command_options with_on_off mask over = then_some (nat_le with_on_off 1) (options_of with_on_off mask over)
+
+-- The kinds: what each says from byte 12 on, where its flags and its unnamed bytes are right.
+
+abbrev pub move_to_level : List ℕ → Option Command
+move_to_level s = then_some (is_flag s 12 && is_flag s 14 && zeros_from s 19) (command.MoveToLevel (record {
   level = byte_at s 13;
-  transition_time = time_if (is_set s 14) (le16 s 15);
-  options_mask = options (byte_at s 17);
-  options_override = options (byte_at s 18);
+  transition_time = then_some (is_set s 14) (tenths_at s 15);
+  options = options_of (byte_at s 12) (byte_at s 17) (byte_at s 18);
 }))
 
--- "2 move (with-on-off, mode 0 up 1 down, known, rate, mask, override)"
-unfoldable pub move : List ℕ → EventRead
-move s = event_if s (is_flag s 12 && is_flag s 13 && is_flag s 14 && zeros_from s 18) (kind.Move (record {
-  with_on_off = is_set s 12;
+abbrev pub move : List ℕ → Option Command
+move s = then_some (is_flag s 12 && is_flag s 13 && is_flag s 14 && zeros_from s 18) (command.Move (record {
   mode = mode_of (is_set s 13);
-  rate = rate_if (is_set s 14) (byte_at s 15);
-  options_mask = options (byte_at s 16);
-  options_override = options (byte_at s 17);
+  rate = then_some (is_set s 14) (byte_at s 15);
+  options = options_of (byte_at s 12) (byte_at s 16) (byte_at s 17);
 }))
 
--- "3 step (with-on-off, mode, size, known, time 2, mask, override)"
-unfoldable pub step : List ℕ → EventRead
-step s = event_if s (is_flag s 12 && is_flag s 13 && is_flag s 15) (kind.Step (record {
-  with_on_off = is_set s 12;
+abbrev pub step : List ℕ → Option Command
+step s = then_some (is_flag s 12 && is_flag s 13 && is_flag s 15) (command.Step (record {
   mode = mode_of (is_set s 13);
   step_size = byte_at s 14;
-  transition_time = time_if (is_set s 15) (le16 s 16);
-  options_mask = options (byte_at s 18);
-  options_override = options (byte_at s 19);
+  transition_time = then_some (is_set s 15) (tenths_at s 16);
+  options = options_of (byte_at s 12) (byte_at s 18) (byte_at s 19);
 }))
 
--- "4 stop (with-on-off, mask, override)"
-unfoldable pub stop : List ℕ → EventRead
-stop s = event_if s (is_flag s 12 && zeros_from s 15) (kind.Stop (record {
-  with_on_off = is_set s 12;
-  options_mask = options (byte_at s 13);
-  options_override = options (byte_at s 14);
-}))
+abbrev pub stop : List ℕ → Option Command
+stop s = then_some (is_flag s 12 && zeros_from s 15) (command.Stop (options_of (byte_at s 12) (byte_at s 13) (byte_at s 14)))
 
--- "5 answer (0 level, 1 missing, 2 failed; level, ignored unless 0)"
-unfoldable pub answer_at : List ℕ → DeviceAnswer
-answer_at s = cond (eqb (byte_at s 12) 0) (device.Level (byte_at s 13)) (cond (eqb (byte_at s 12) 1) device.Missing device.Failed)
+-- 0 level, 1 missing, 2 failed
+abbrev pub answer_at : List ℕ → DeviceAnswer
+answer_at s =
+    if nat_eq (byte_at s 12) 0 then device.Level (byte_at s 13) else if nat_eq (byte_at s 12) 1 then device.Missing else device.Failed
 
-unfoldable pub answer : List ℕ → EventRead
-answer s = event_if s (leb (byte_at s 12) 2 && zeros_from s 14) (kind.Answer (answer_at s))
+abbrev pub answer : List ℕ → Option DeviceAnswer
+answer s = then_some (nat_le (byte_at s 12) 2 && zeros_from s 14) (answer_at s)
 
--- "6 wake"
-unfoldable pub wake : List ℕ → EventRead
-wake s = event_if s (zeros_from s 12) kind.Wake
+abbrev pub on_off_changed : List ℕ → Option Command
+on_off_changed s = then_some (is_flag s 12 && zeros_from s 13) (command.OnOffChanged (is_set s 12))
 
--- "7 on/off changed (value)"
-unfoldable pub on_off_changed : List ℕ → EventRead
-on_off_changed s = event_if s (is_flag s 12 && zeros_from s 13) (kind.OnOffChanged (is_set s 12))
-
--- "8 scene (present, level, milliseconds 4)"
-unfoldable pub scene : List ℕ → EventRead
-scene s = event_if s (is_flag s 12 && zeros_from s 18) (kind.Scene (record {
-  level = level_if (is_set s 12) (byte_at s 13);
+abbrev pub scene : List ℕ → Option Command
+scene s = then_some (is_flag s 12 && zeros_from s 18) (command.Scene (record {
+  level = then_some (is_set s 12) (byte_at s 13);
   transition_time = millis (le32 s 14);
 }))
 
--- "9 device update (level)"
-unfoldable pub device_update : List ℕ → EventRead
-device_update s = event_if s (zeros_from s 13) (kind.DeviceUpdate (byte_at s 12))
+abbrev pub device_update : List ℕ → Option Command
+device_update s = then_some (zeros_from s 13) (command.DeviceUpdate (byte_at s 12))
 
--- "10 device stop"
-unfoldable pub device_stop : List ℕ → EventRead
-device_stop s = event_if s (zeros_from s 12) kind.DeviceStop
+-- no byte from 12 on is named
+abbrev pub bare : {A : Type 0} → List ℕ → A → Option A
+bare s what = then_some (zeros_from s 12) what
 
--- "11, 12, 13 set on level, default rate, start-up level (known, value)"
-unfoldable pub set_on_level : List ℕ → EventRead
-set_on_level s = event_if s (is_flag s 12 && zeros_from s 14) (kind.SetOnLevel (level_if (is_set s 12) (byte_at s 13)))
+-- of the three setters: whether it is known, and the value
+abbrev pub known_value : List ℕ → Option (Option ℕ)
+known_value s = then_some (is_flag s 12 && zeros_from s 14) (then_some (is_set s 12) (byte_at s 13))
 
-unfoldable pub set_default_move_rate : List ℕ → EventRead
-set_default_move_rate s = event_if s (is_flag s 12 && zeros_from s 14) (kind.SetDefaultMoveRate (rate_if (is_set s 12) (byte_at s 13)))
-
-unfoldable pub set_start_up_current_level : List ℕ → EventRead
-set_start_up_current_level s =
-    event_if s (is_flag s 12 && zeros_from s 14) (kind.SetStartUpCurrentLevel (level_if (is_set s 12) (byte_at s 13)))
-
--- "14 reset"
-unfoldable pub factory_reset : List ℕ → EventRead
-factory_reset s = event_if s (zeros_from s 12) kind.FactoryReset
+abbrev pub of_command : Option Command → Option EventKind
+of_command c = option_map kind.Command c
 
 -- a record read as each of the kinds, in the order of their numbers from 0 on
-abbrev pub kinds : List ℕ → List EventRead
+abbrev pub kinds : List ℕ → List (Option EventKind)
 kinds s =
-    start_up s
-    ∷ move_to_level s
-    ∷ move s
-    ∷ step s
-    ∷ stop s
-    ∷ answer s
-    ∷ wake s
-    ∷ on_off_changed s
-    ∷ scene s
-    ∷ device_update s
-    ∷ device_stop s
-    ∷ set_on_level s
-    ∷ set_default_move_rate s
-    ∷ set_start_up_current_level s
-    ∷ factory_reset s
+    bare s kind.StartUp
+    ∷ of_command (move_to_level s)
+    ∷ of_command (move s)
+    ∷ of_command (step s)
+    ∷ of_command (stop s)
+    ∷ option_map kind.Answer (answer s)
+    ∷ bare s kind.Wake
+    ∷ of_command (on_off_changed s)
+    ∷ of_command (scene s)
+    ∷ of_command (device_update s)
+    ∷ of_command (bare s command.DeviceStop)
+    ∷ of_command (option_map command.SetOnLevel (known_value s))
+    ∷ of_command (option_map command.SetDefaultMoveRate (known_value s))
+    ∷ of_command (option_map command.SetStartUpCurrentLevel (known_value s))
+    ∷ of_command (bare s command.FactoryReset)
     ∷ []
 
--- what a record is read as, for every list of bytes: byte 2 says which of the kinds
-unfoldable pub event_read : List ℕ → EventRead
-event_read s = cond (has_marks s 0x45 && is_flag s 3) (get_or (kinds s) (byte_at s 2) RecordWrong) RecordWrong
+-- byte 2 says which of the kinds
+unfoldable pub kind_read : List ℕ → Option EventKind
+kind_read s = get_or (kinds s) (byte_at s 2) None
+
+-- what a record is read as, for every list of bytes
+unfoldable pub event_read : List ℕ → Option Event
+event_read s =
+    if has_marks s 0x45 && is_flag s 3 then option_map (event (clock_time s) (is_set s 3)) (kind_read s) else None
 
 -- its number: 0 where it is an event
-abbrev pub event_read_number : EventRead → ℕ
-event_read_number (Event e) = 0
-event_read_number RecordWrong = 1
+abbrev pub event_read_number : Option Event → ℕ
+event_read_number (Some e) = 0
+event_read_number None = 1

@@ -1,8 +1,7 @@
--- The records in document 01's own words: laws for every list of bytes, by which the definitions of this folder can be believed.
-use Rattle.std.specs.Prelude.{ℕ, ◌+◌, ◌/◌, ◌%◌, ◌^◌, ◌≤◌, ◌<◌, Bool, false, ◌&&◌, ◌≡◌, ◌↔◌, List, [], ◌∷◌, ltb, eqb, get_or}
+-- Records, as laws for every list of bytes, by which the definitions of this folder can be believed.
+use Rattle.std.specs.Prelude.{ℕ, ◌+◌, ◌/◌, ◌%◌, ◌^◌, ◌≤◌, ◌<◌, Bool, false, ◌&&◌, ◌≡◌, ◌↔◌, List, [], ◌∷◌, nat_lt, nat_eq, get_or, Some, Ok}
 use Rattle.units.specs.Units.{micros}
-use Rattle.transitions.specs.Causes.{first_cause, no_command_tests}
-use Rattle.transitions.specs.declared.causes.Tests.{Tests}
+use Rattle.transitions.specs.Causes.{Tests, first_cause, no_command_tests, no_turn_tests}
 use Rattle.transitions.specs.declared.events.Event.{Event}
 use Rattle.transitions.specs.declared.settings.Settings.{Settings}
 use Rattle.records.specs.Bytes.{byte_at, low_first, le16, le32, le64, is_set}
@@ -10,8 +9,6 @@ use Rattle.records.specs.Settings.{settings_wrong, settings_read, settings_read_
 use Rattle.records.specs.Events.{event_read, event_read_number}
 use Rattle.records.specs.Layout.{layout, settings_layout, event_layouts, Keeps, Marked, MissingInEvent, MissingInSettings, SameBut}
 use Rattle.records.specs.Written.{kind_number, event_record, EventFits, settings_record, SettingsFit, Allowed}
-use Rattle.records.specs.declared.events.EventRead.TheVariants as read
-use Rattle.records.specs.declared.settings.SettingsRead.TheVariants as settings
 
 abbrev pub AllBytes : List ℕ → Type 0
 AllBytes [] = Unit {0}
@@ -25,16 +22,16 @@ byte_of x k = x / 256 ^ k % 256
 abbrev pub settings_causes : Bool → Bool → Bool → Bool → Tests
 settings_causes wrong above under dark = record {
   call = record { record_wrong = wrong; max_above_254 = above; min_above_max = under; lighting_min_0 = dark; output_short = false };
-  turn = record { time_refused = false; answer_open = false; no_answer_open = false; wake_refused = false; start_up_late = false };
+  turn = no_turn_tests;
   command = no_command_tests;
 }
 
--- "MAX > 254", "MIN > MAX", "Lighting, MIN 0"
+-- MAX above 254, MIN above MAX, MIN 0 with lighting
 abbrev pub settings_tests : List ℕ → Tests
-settings_tests s = settings_causes (settings_wrong s) (ltb 254 (byte_at s 3)) (ltb (byte_at s 3) (byte_at s 2)) (eqb (byte_at s 18) 1 && eqb (byte_at s 2) 0)
+settings_tests s = settings_causes (settings_wrong s) (nat_lt 254 (byte_at s 3)) (nat_lt (byte_at s 3) (byte_at s 2)) (nat_eq (byte_at s 18) 1 && nat_eq (byte_at s 2) 0)
 
 pub record Laws : Type 0 where
-  -- "low byte first": byte k of a number is the record's byte k places on, and it has no more of them
+  -- low byte first: byte k of a number is the record's byte k places on, and it has no more of them
   pub low_first_bytes : (n : ℕ) (s : List ℕ) (at k : ℕ) → AllBytes s → k < n → byte_of (low_first n s at) k ≡ byte_at s (at + k)
   pub below : (n : ℕ) (s : List ℕ) (at : ℕ) → AllBytes s → low_first n s at < 256 ^ n
   pub below_16 : (s : List ℕ) (at : ℕ) → AllBytes s → le16 s at < 2 ^ 16
@@ -49,14 +46,14 @@ pub record Laws : Type 0 where
       → (event_read_number (event_read s) ≡ 0)
       ↔ (Marked s 0x45 × (byte_at s 3 ≤ 1) × (byte_at s 2 < 15) × Keeps s (get_or event_layouts (byte_at s 2) (layout [] 0)))
   -- the event then has the record's kind, time and on/off value
-  pub event_head : (s : List ℕ) (e : Event) → event_read s ≡ read.Event e
-      → (kind_number e.kind ≡ byte_at s 2) × (e.at ≡ micros (le64 s 4)) × (e.on_off ≡ is_set s 3)
-  -- "a value marked missing is ignored": two records that differ in its bytes alone are read the same
+  pub event_head : (s : List ℕ) (e : Event) → event_read s ≡ Some e
+      → (kind_number e.kind ≡ byte_at s 2) × (e.moment.at ≡ micros (le64 s 4)) × (e.moment.on_off ≡ is_set s 3)
+  -- a value marked missing is ignored: two records that differ in its bytes alone are read the same
   pub event_ignores : (s t : List ℕ) (from to : ℕ) → MissingInEvent s from to → SameBut from to s t → event_read s ≡ event_read t
   pub settings_ignores : (s t : List ℕ) (from to : ℕ) → MissingInSettings s from to → SameBut from to s t → settings_read s ≡ settings_read t
   -- what is read from bytes fits its bytes, and settings that are read are allowed
-  pub settings_fit : (s : List ℕ) (x : Settings) → AllBytes s → settings_read s ≡ settings.Settings x → SettingsFit x × Allowed x
-  pub event_fits : (s : List ℕ) (e : Event) → AllBytes s → event_read s ≡ read.Event e → EventFits e
-  -- and all such settings and events are read again from the record that document 01 gives them
-  pub settings_written : (x : Settings) → SettingsFit x → Allowed x → settings_read (settings_record x) ≡ settings.Settings x
-  pub event_written : (e : Event) → EventFits e → event_read (event_record e) ≡ read.Event e
+  pub settings_fit : (s : List ℕ) (x : Settings) → AllBytes s → settings_read s ≡ Ok x → SettingsFit x × Allowed x
+  pub event_fits : (s : List ℕ) (e : Event) → AllBytes s → event_read s ≡ Some e → EventFits e
+  -- and all such settings and events are read again from the record that Records gives them
+  pub settings_written : (x : Settings) → SettingsFit x → Allowed x → settings_read (settings_record x) ≡ Ok x
+  pub event_written : (e : Event) → EventFits e → event_read (event_record e) ≡ Some e

@@ -1,4 +1,4 @@
--- "Records" of document 01 as a table: which bytes have a limit, which are unnamed, and which belong to a missing value.
+-- Records as a table: which bytes have a limit, which are unnamed, and which belong to a missing value.
 -- It is written beside the definitions of Settings.antt and Events.antt; Laws.antt says that they agree.
 use Rattle.std.specs.Prelude.{ℕ, ◌≤◌, ◌<◌, ◌/◌, ◌%◌, ◌≡◌, List, [], ◌∷◌, length}
 use Rattle.records.specs.Bytes.{byte_at}
@@ -16,7 +16,7 @@ pub record Layout : Type 0 where
 abbrev limit : ℕ → ℕ → Limit
 limit place most = record { place = place; most = most }
 
--- "flags are 0 or 1"
+-- flags are 0 or 1
 abbrev flag : ℕ → Limit
 flag place = limit place 1
 

@@ -1,5 +1,4 @@
 pub mod Bytes
-pub mod Values
 pub mod Settings
 pub mod Events
 pub mod Layout

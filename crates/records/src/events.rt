@@ -1,224 +1,188 @@
-// A record to an event. Each kind has a function of its own; from byte 12 on it says what the bytes are.
-#![tactic(auto, unfolding(crate::specs::Events::answer, crate::specs::Events::answer_at, crate::specs::Events::device_stop, crate::specs::Events::device_update, crate::specs::Events::event_if, crate::specs::Events::event_read, crate::specs::Events::factory_reset, crate::specs::Events::move_to_level, crate::specs::Events::on_off_changed, crate::specs::Events::scene, crate::specs::Events::set_default_move_rate, crate::specs::Events::set_on_level, crate::specs::Events::set_start_up_current_level, crate::specs::Events::start_up, crate::specs::Events::step, crate::specs::Events::stop, crate::specs::Events::wake))]
+//! A record to an event.
+ghost use Rattle.std.specs.Prelude.{◌≡◌, ◌≢◌};
+ghost use Rattle.records.specs.Bytes.{byte_at};
+ghost use Rattle.records.specs.Events.{answer, bare, command_options, device_update, event_read, kind_read, known_value, mode_at, move, move_to_level, of_command, on_off_changed, scene, step, stop};
 
-ghost use Rattle.std.specs.Prelude.{◌≡◌};
-ghost use Rattle.records.specs.Events.{answer, answer_at, device_stop, device_update, event_if, event_read, factory_reset, move, move_to_level, on_off_changed, scene, set_default_move_rate, set_on_level, set_start_up_current_level, start_up, step, stop, wake};
-
-use crate::bytes::{byte, has_marks, is_flag, is_set, u16_at, u32_at, u64_at, zeros_from};
-use crate::values::{level_if, mode_of, rate_if, time_if};
+use crate::bytes::{clock_time, flag, marked, tenths_at, zeros_from};
 use transitions::events::{
-    DeviceAnswer, Event, EventKind, MoveRequest, MoveToLevelRequest, SceneRequest, StepRequest,
-    StopRequest,
+    Command, DeviceAnswer, Event, EventKind, MoveRequest, MoveToLevelRequest, SceneRequest,
+    StepRequest,
 };
-use transitions::types::OptionsBitmap;
-use units::{Micros, Millis};
+use transitions::options::CommandOptions;
+use transitions::types::{Mode, Moment, OptionsBitmap};
+use units::Millis;
 
-#[derive(Clone, Copy)]
-pub enum EventRead {
-    Event(Event),
-    RecordWrong,
-}
-
-pub fn read_event(bytes: &[u8]) -> EventRead
+/// The event that a record says. None, number 1, where it has not 20 bytes, or a mark, a flag, the mode, the kind, an
+/// answer's code or an unnamed byte is wrong.
+#[tactic(auto, unfolding(crate::specs::Events::event_read))]
+pub fn read_event(bytes: &[u8]) -> Option<Event>
     ensures { result ≡ event_read bytes.now }
 {
-    if has_marks(bytes, 0x45) {
-        if is_flag(bytes, 3) {
-            let kind = byte(bytes, 2);
-            return match kind {
-                0 => read_start_up(bytes),
-                1 => read_move_to_level(bytes),
-                2 => read_move(bytes),
-                3 => read_step(bytes),
-                4 => read_stop(bytes),
-                5 => read_answer(bytes),
-                6 => read_wake(bytes),
-                7 => read_on_off_changed(bytes),
-                8 => read_scene(bytes),
-                9 => read_device_update(bytes),
-                10 => read_device_stop(bytes),
-                11 => read_set_on_level(bytes),
-                12 => read_set_default_move_rate(bytes),
-                13 => read_set_start_up_current_level(bytes),
-                14 => read_factory_reset(bytes),
-                _ => EventRead::RecordWrong,
-            };
-        }
-    }
-    EventRead::RecordWrong
+    let bytes = marked(bytes, 0x45)?;
+    let on_off = flag(bytes[3])?;
+    let kind = read_kind(bytes)?;
+    Some(Event {
+        moment: Moment {
+            at: clock_time(bytes),
+            on_off,
+        },
+        kind,
+    })
 }
 
-// An event of a kind, with the record's time and on/off value, where the bytes from 12 on are right.
-fn event_if(bytes: &[u8], right: bool, kind: EventKind) -> EventRead
-    ensures { result ≡ event_if bytes.now right kind }
+/// Byte 2, and what its kind says of the bytes from 12 on.
+#[tactic(auto, unfolding(crate::specs::Events::kind_read))]
+fn read_kind(bytes: &[u8; 20]) -> Option<EventKind>
+    ensures { result ≡ kind_read bytes.now }
 {
-    if right {
-        return EventRead::Event(Event {
-            at: Micros(u64_at(bytes, 4)),
-            on_off: is_set(bytes, 3),
-            kind: kind,
-        });
+    match bytes[2] {
+        0 => bare(bytes, EventKind::StartUp),
+        5 => read_answer(bytes).map(EventKind::Answer),
+        6 => bare(bytes, EventKind::Wake),
+        _ => read_command(bytes).map(EventKind::Command),
     }
-    EventRead::RecordWrong
 }
 
-fn read_start_up(bytes: &[u8]) -> EventRead
-    ensures { result ≡ start_up bytes.now }
+/// The other twelve kinds.
+#[tactic(auto, using(crate::proofs::KindLaws::no_kind), unfolding(crate::specs::Events::kind_read))]
+fn read_command(bytes: &[u8; 20]) -> Option<Command>
+    requires no_start_up { byte_at bytes.now 2 ≢ 0 }
+    requires no_answer { byte_at bytes.now 2 ≢ 5 }
+    requires no_wake { byte_at bytes.now 2 ≢ 6 }
+    ensures { of_command result ≡ kind_read bytes.now }
 {
-    event_if(bytes, zeros_from(bytes, 12), EventKind::StartUp)
+    match bytes[2] {
+        1 => read_move_to_level(bytes),
+        2 => read_move(bytes),
+        3 => read_step(bytes),
+        4 => read_stop(bytes),
+        7 => read_on_off_changed(bytes),
+        8 => read_scene(bytes),
+        9 => read_device_update(bytes),
+        10 => bare(bytes, Command::DeviceStop),
+        11 => read_known(bytes).map(Command::SetOnLevel),
+        12 => read_known(bytes).map(Command::SetDefaultMoveRate),
+        13 => read_known(bytes).map(Command::SetStartUpCurrentLevel),
+        14 => bare(bytes, Command::FactoryReset),
+        _ => None,
+    }
 }
 
-fn read_move_to_level(bytes: &[u8]) -> EventRead
+/// A kind that has no bytes of its own.
+fn bare<T: Drop>(bytes: &[u8; 20], kind: T) -> Option<T>
+    ensures { result ≡ bare bytes.now kind }
+{
+    zeros_from(bytes, 12).then_some(kind)
+}
+
+fn read_move_to_level(bytes: &[u8; 20]) -> Option<Command>
     ensures { result ≡ move_to_level bytes.now }
 {
-    let right = is_flag(bytes, 12) & is_flag(bytes, 14) & zeros_from(bytes, 19);
-    let time = time_if(is_set(bytes, 14), u16_at(bytes, 15));
-    let request = MoveToLevelRequest {
-        with_on_off: is_set(bytes, 12),
-        level: byte(bytes, 13),
-        transition_time: time,
-        options_mask: OptionsBitmap(byte(bytes, 17)),
-        options_override: OptionsBitmap(byte(bytes, 18)),
-    };
-    event_if(bytes, right, EventKind::MoveToLevel(request))
+    let options = command_options(bytes[12], bytes[17], bytes[18])?;
+    let known = flag(bytes[14])?;
+    zeros_from(bytes, 19).then_some(Command::MoveToLevel(MoveToLevelRequest {
+        level: bytes[13],
+        transition_time: known.then_some(tenths_at(bytes, 15)),
+        options,
+    }))
 }
 
-fn read_move(bytes: &[u8]) -> EventRead
+fn read_move(bytes: &[u8; 20]) -> Option<Command>
     ensures { result ≡ move bytes.now }
 {
-    let right = is_flag(bytes, 12)
-        & is_flag(bytes, 13)
-        & is_flag(bytes, 14)
-        & zeros_from(bytes, 18);
-    let mode = mode_of(is_set(bytes, 13));
-    let rate = rate_if(is_set(bytes, 14), byte(bytes, 15));
-    let request = MoveRequest {
-        with_on_off: is_set(bytes, 12),
-        mode: mode,
-        rate: rate,
-        options_mask: OptionsBitmap(byte(bytes, 16)),
-        options_override: OptionsBitmap(byte(bytes, 17)),
-    };
-    event_if(bytes, right, EventKind::Move(request))
+    let options = command_options(bytes[12], bytes[16], bytes[17])?;
+    let mode = mode(bytes[13])?;
+    let known = flag(bytes[14])?;
+    zeros_from(bytes, 18).then_some(Command::Move(MoveRequest {
+        mode,
+        rate: known.then_some(bytes[15]),
+        options,
+    }))
 }
 
-// No byte is unnamed.
-fn read_step(bytes: &[u8]) -> EventRead
+/// It has no unnamed byte.
+fn read_step(bytes: &[u8; 20]) -> Option<Command>
     ensures { result ≡ step bytes.now }
 {
-    let right = is_flag(bytes, 12) & is_flag(bytes, 13) & is_flag(bytes, 15);
-    let mode = mode_of(is_set(bytes, 13));
-    let time = time_if(is_set(bytes, 15), u16_at(bytes, 16));
-    let request = StepRequest {
-        with_on_off: is_set(bytes, 12),
-        mode: mode,
-        step_size: byte(bytes, 14),
-        transition_time: time,
-        options_mask: OptionsBitmap(byte(bytes, 18)),
-        options_override: OptionsBitmap(byte(bytes, 19)),
-    };
-    event_if(bytes, right, EventKind::Step(request))
+    let options = command_options(bytes[12], bytes[18], bytes[19])?;
+    let mode = mode(bytes[13])?;
+    let known = flag(bytes[15])?;
+    Some(Command::Step(StepRequest {
+        mode,
+        step_size: bytes[14],
+        transition_time: known.then_some(tenths_at(bytes, 16)),
+        options,
+    }))
 }
 
-fn read_stop(bytes: &[u8]) -> EventRead
+fn read_stop(bytes: &[u8; 20]) -> Option<Command>
     ensures { result ≡ stop bytes.now }
 {
-    let right = is_flag(bytes, 12) & zeros_from(bytes, 15);
-    let request = StopRequest {
-        with_on_off: is_set(bytes, 12),
-        options_mask: OptionsBitmap(byte(bytes, 13)),
-        options_override: OptionsBitmap(byte(bytes, 14)),
-    };
-    event_if(bytes, right, EventKind::Stop(request))
+    let options = command_options(bytes[12], bytes[13], bytes[14])?;
+    zeros_from(bytes, 15).then_some(Command::Stop(options))
 }
 
-fn read_answer(bytes: &[u8]) -> EventRead
+/// The level counts with code 0 alone.
+fn read_answer(bytes: &[u8; 20]) -> Option<DeviceAnswer>
     ensures { result ≡ answer bytes.now }
 {
-    let right = (byte(bytes, 12) <= 2) & zeros_from(bytes, 14);
-    let given = answer_at(bytes);
-    event_if(bytes, right, EventKind::Answer(given))
+    let answer = match bytes[12] {
+        0 => DeviceAnswer::Level(bytes[13]),
+        1 => DeviceAnswer::Missing,
+        2 => DeviceAnswer::Failed,
+        _ => return None,
+    };
+    zeros_from(bytes, 14).then_some(answer)
 }
 
-// Codes above 2 are refused before anybody looks at this.
-fn answer_at(bytes: &[u8]) -> DeviceAnswer
-    ensures { result ≡ answer_at bytes.now }
-{
-    let code = byte(bytes, 12);
-    let level = byte(bytes, 13);
-    if code == 0 {
-        return DeviceAnswer::Level(level);
-    }
-    if code == 1 {
-        return DeviceAnswer::Missing;
-    }
-    DeviceAnswer::Failed
-}
-
-fn read_wake(bytes: &[u8]) -> EventRead
-    ensures { result ≡ wake bytes.now }
-{
-    event_if(bytes, zeros_from(bytes, 12), EventKind::Wake)
-}
-
-fn read_on_off_changed(bytes: &[u8]) -> EventRead
+fn read_on_off_changed(bytes: &[u8; 20]) -> Option<Command>
     ensures { result ≡ on_off_changed bytes.now }
 {
-    let right = is_flag(bytes, 12) & zeros_from(bytes, 13);
-    event_if(bytes, right, EventKind::OnOffChanged(is_set(bytes, 12)))
+    let on = flag(bytes[12])?;
+    zeros_from(bytes, 13).then_some(Command::OnOffChanged(on))
 }
 
-fn read_scene(bytes: &[u8]) -> EventRead
+fn read_scene(bytes: &[u8; 20]) -> Option<Command>
     ensures { result ≡ scene bytes.now }
 {
-    let right = is_flag(bytes, 12) & zeros_from(bytes, 18);
-    let level = level_if(is_set(bytes, 12), byte(bytes, 13));
-    let request = SceneRequest {
-        level: level,
-        transition_time: Millis(u32_at(bytes, 14)),
-    };
-    event_if(bytes, right, EventKind::Scene(request))
+    let present = flag(bytes[12])?;
+    let millis = u32::from_le_bytes([bytes[14], bytes[15], bytes[16], bytes[17]]);
+    zeros_from(bytes, 18).then_some(Command::Scene(SceneRequest {
+        level: present.then_some(bytes[13]),
+        transition_time: Millis(millis),
+    }))
 }
 
-fn read_device_update(bytes: &[u8]) -> EventRead
+fn read_device_update(bytes: &[u8; 20]) -> Option<Command>
     ensures { result ≡ device_update bytes.now }
 {
-    let right = zeros_from(bytes, 13);
-    event_if(bytes, right, EventKind::DeviceUpdate(byte(bytes, 12)))
+    zeros_from(bytes, 13).then_some(Command::DeviceUpdate(bytes[12]))
 }
 
-fn read_device_stop(bytes: &[u8]) -> EventRead
-    ensures { result ≡ device_stop bytes.now }
+/// The level or the rate of a setter.
+fn read_known(bytes: &[u8; 20]) -> Option<Option<u8>>
+    ensures { result ≡ known_value bytes.now }
 {
-    event_if(bytes, zeros_from(bytes, 12), EventKind::DeviceStop)
+    let known = flag(bytes[12])?;
+    zeros_from(bytes, 14).then_some(known.then_some(bytes[13]))
 }
 
-fn read_set_on_level(bytes: &[u8]) -> EventRead
-    ensures { result ≡ set_on_level bytes.now }
+fn command_options(with_on_off: u8, mask: u8, over: u8) -> Option<CommandOptions>
+    ensures { result ≡ command_options with_on_off mask over }
 {
-    let right = is_flag(bytes, 12) & zeros_from(bytes, 14);
-    let level = level_if(is_set(bytes, 12), byte(bytes, 13));
-    event_if(bytes, right, EventKind::SetOnLevel(level))
+    Some(CommandOptions {
+        with_on_off: flag(with_on_off)?,
+        options_mask: OptionsBitmap(mask),
+        options_override: OptionsBitmap(over),
+    })
 }
 
-fn read_set_default_move_rate(bytes: &[u8]) -> EventRead
-    ensures { result ≡ set_default_move_rate bytes.now }
+fn mode(byte: u8) -> Option<Mode>
+    ensures { result ≡ mode_at byte }
 {
-    let right = is_flag(bytes, 12) & zeros_from(bytes, 14);
-    let rate = rate_if(is_set(bytes, 12), byte(bytes, 13));
-    event_if(bytes, right, EventKind::SetDefaultMoveRate(rate))
-}
-
-fn read_set_start_up_current_level(bytes: &[u8]) -> EventRead
-    ensures { result ≡ set_start_up_current_level bytes.now }
-{
-    let right = is_flag(bytes, 12) & zeros_from(bytes, 14);
-    let level = level_if(is_set(bytes, 12), byte(bytes, 13));
-    event_if(bytes, right, EventKind::SetStartUpCurrentLevel(level))
-}
-
-fn read_factory_reset(bytes: &[u8]) -> EventRead
-    ensures { result ≡ factory_reset bytes.now }
-{
-    event_if(bytes, zeros_from(bytes, 12), EventKind::FactoryReset)
+    match byte {
+        0 => Some(Mode::Up),
+        1 => Some(Mode::Down),
+        _ => None,
+    }
 }

@@ -1,87 +1,92 @@
-// A record to settings, or the first of the numbers 1 to 4 that refuses it.
-#![tactic(auto, unfolding(crate::specs::Settings::attributes_at, crate::specs::Settings::settings_at, crate::specs::Settings::settings_read, crate::specs::Settings::settings_wrong))]
+//! A record to settings.
+ghost use Rattle.std.specs.Prelude.{◌≡◌, Ok, Err, IfErr, OnOk, ◌<◌, not, is_some, IfSome};
+ghost use Rattle.records.specs.Settings.{checked, known_bit, refusal_number, settings_at, settings_read, settings_wrong};
 
-ghost use Rattle.std.specs.Prelude.{◌≡◌};
-ghost use Rattle.records.specs.Settings.{attributes_at, settings_at, settings_read, settings_wrong};
-
-use crate::bytes::{byte, has_marks, is_flag, is_set, u16_at, zeros_from};
-use crate::values::{level_if, rate_if, time_if};
+use crate::bytes::{flag, marked, tenths_at, zeros_from};
 use transitions::settings::{Attributes, Settings};
-use transitions::types::OptionsBitmap;
-use units::Tenths;
+use transitions::types::{LevelRange, OptionsBitmap};
 
-#[derive(Clone, Copy)]
-pub enum SettingsRead {
-    Settings(Settings),
-    RecordWrong,
-    MaxAbove254,
-    MinAboveMax,
-    LightingMin0,
+/// Why settings are refused (docs/RULES.md, Causes), and the numbers.
+#[derive(Clone, Copy, Debug, PartialEq, Eq)]
+pub enum SettingsRefusal {
+    /// Not 20 bytes, or a mark, a flag, known bit 6 or 7, or the unnamed byte is wrong.
+    RecordWrong = 1,
+    MaxAbove254 = 2,
+    MinAboveMax = 3,
+    LightingMin0 = 4,
 }
 
-pub fn read_settings(bytes: &[u8]) -> SettingsRead
+impl From<SettingsRefusal> for u8 {
+    ghost from_gives = { λ refusal number. number ≡ refusal_number refusal };
+
+    fn from(refusal: SettingsRefusal) -> u8 {
+        refusal as u8
+    }
+}
+
+/// The settings that a record says, or the first cause that refuses them.
+#[tactic(auto, unfolding(crate::specs::Settings::settings_read))]
+pub fn read_settings(bytes: &[u8]) -> Result<Settings, SettingsRefusal>
     ensures { result ≡ settings_read bytes.now }
 {
-    let min_level = byte(bytes, 2);
-    let max_level = byte(bytes, 3);
-    let lighting = is_set(bytes, 18);
-    if settings_wrong(bytes) {
-        return SettingsRead::RecordWrong;
-    }
-    if 254 < max_level {
-        return SettingsRead::MaxAbove254;
-    }
-    if max_level < min_level {
-        return SettingsRead::MinAboveMax;
-    }
-    if lighting & (min_level == 0) {
-        return SettingsRead::LightingMin0;
-    }
-    SettingsRead::Settings(settings_at(bytes))
+    let settings = read_record(bytes).ok_or(SettingsRefusal::RecordWrong)?;
+    check(&settings)?;
+    Ok(settings)
 }
 
-// A mark, a flag, known bit 6 or 7, or the unnamed byte 19.
-fn settings_wrong(bytes: &[u8]) -> bool
-    ensures { result ≡ settings_wrong bytes.now }
+fn check(settings: &Settings) -> Result<(), SettingsRefusal>
+    ensures ok { OnOk result (checked settings.now ≡ Ok settings.now) }
+    ensures err { IfErr result (λ why. checked settings.now ≡ Err why) }
 {
-    let known = byte(bytes, 11) <= 63;
-    let right = is_flag(bytes, 4) & known & is_flag(bytes, 18) & zeros_from(bytes, 19);
-    !(has_marks(bytes, 0x47) & right)
+    let LevelRange { min, max } = settings.range;
+    if 254 < max {
+        return Err(SettingsRefusal::MaxAbove254);
+    }
+    if max < min {
+        return Err(SettingsRefusal::MinAboveMax);
+    }
+    if settings.lighting && min == 0 {
+        return Err(SettingsRefusal::LightingMin0);
+    }
+    Ok(())
 }
 
-fn settings_at(bytes: &[u8]) -> Settings
-    ensures { result ≡ settings_at bytes.now }
+/// None if a byte is wrong.
+fn read_record(bytes: &[u8]) -> Option<Settings>
+    ensures right { is_some result ≡ not (settings_wrong bytes.now) }
+    ensures value { IfSome result (λ settings. settings ≡ settings_at bytes.now) }
 {
-    let known = byte(bytes, 11);
-    let current_level = level_if(known % 2 == 1, byte(bytes, 7));
-    let attributes = attributes_at(bytes);
-    Settings {
-        min_level: byte(bytes, 2),
-        max_level: byte(bytes, 3),
-        coupled: is_set(bytes, 4),
-        fastest_rate: byte(bytes, 6),
-        lighting: is_set(bytes, 18),
-        current_level: current_level,
-        attributes: attributes,
+    let bytes = marked(bytes, 0x47)?;
+    let coupled = flag(bytes[4])?;
+    let lighting = flag(bytes[18])?;
+    if 63 < bytes[11] || !zeros_from(bytes, 19) {
+        return None;
     }
+    Some(Settings {
+        range: LevelRange {
+            min: bytes[2],
+            max: bytes[3],
+        },
+        coupled,
+        fastest_rate: bytes[6],
+        lighting,
+        current_level: is_known(bytes, 0).then_some(bytes[7]),
+        attributes: Attributes {
+            on_level: is_known(bytes, 1).then_some(bytes[8]),
+            options: OptionsBitmap(bytes[5]),
+            on_off_transition_time: tenths_at(bytes, 12),
+            on_transition_time: is_known(bytes, 4).then_some(tenths_at(bytes, 14)),
+            off_transition_time: is_known(bytes, 5).then_some(tenths_at(bytes, 16)),
+            default_move_rate: is_known(bytes, 3).then_some(bytes[10]),
+            start_up_current_level: is_known(bytes, 2).then_some(bytes[9]),
+        },
+    })
 }
 
-fn attributes_at(bytes: &[u8]) -> Attributes
-    ensures { result ≡ attributes_at bytes.now }
+/// A bit of byte 11.
+fn is_known(bytes: &[u8; 20], bit: u32) -> bool
+    requires { bit < 8 }
+    ensures { result ≡ known_bit bytes.now bit }
 {
-    let known = byte(bytes, 11);
-    let on_level = level_if(known / 2 % 2 == 1, byte(bytes, 8));
-    let start_up = level_if(known / 4 % 2 == 1, byte(bytes, 9));
-    let rate = rate_if(known / 8 % 2 == 1, byte(bytes, 10));
-    let on_time = time_if(known / 16 % 2 == 1, u16_at(bytes, 14));
-    let off_time = time_if(known / 32 % 2 == 1, u16_at(bytes, 16));
-    Attributes {
-        on_level: on_level,
-        options: OptionsBitmap(byte(bytes, 5)),
-        on_off_transition_time: Tenths(u16_at(bytes, 12)),
-        on_transition_time: on_time,
-        off_transition_time: off_time,
-        default_move_rate: rate,
-        start_up_current_level: start_up,
-    }
+    bytes[11] >> bit & 1 == 1
 }

@@ -1,10 +1,8 @@
-// A list of plays (oracle/README.md, "A list of plays"), read piece by piece.
-use records::bytes::u32_at;
+//! A list of plays (oracle/README.md, "A list of plays"), read piece by piece: it may be longer than the memory.
 use std::io;
 use std::io::Read;
-use text::front;
 
-// A list with longer records or a longer sheet counts as cut.
+/// A list with longer records or a longer sheet counts as cut.
 pub(crate) const MOST_RECORDS: usize = 5_141;
 
 pub(crate) const MOST_SHEET: usize = 65_536;
@@ -12,37 +10,46 @@ pub(crate) const MOST_SHEET: usize = 65_536;
 #[derive(Drop)]
 pub(crate) struct List<R> {
     input: R,
-    // The number of plays and the sum, as the head says.
+    /// The number of plays and the sum, as the head says.
     pub(crate) plays: u32,
     sum: u32,
-    // The sum of what has been read behind the head.
+    /// The sum of what has been read behind the head.
     read: u32,
 }
 
-#[derive(Clone, Copy)]
+#[derive(Clone, Copy, Debug)]
 pub(crate) struct Play<'a> {
     pub(crate) records: &'a [u8],
     pub(crate) sheet: &'a [u8],
 }
 
-// The sum of all bytes, modulo 2^32.
+/// The sum of all bytes, modulo 2^32.
 fn add_bytes(sum: u32, bytes: &[u8]) -> u32 {
     bytes
         .iter()
         .fold(sum, |total, &byte| total.wrapping_add(u32::from(byte)))
 }
 
-// The next n bytes, or as many as there are and the room holds.
+/// A number of a head, low byte first; of a head that was cut, the bytes that are missing are 0.
+fn number(head: &[u8], at: usize) -> u32 {
+    let mut bytes = [0; 4];
+    for (byte, read) in bytes.iter_mut().zip(head.iter().skip(at)) {
+        *byte = *read;
+    }
+    u32::from_le_bytes(bytes)
+}
+
+/// The next n bytes, or as many as there are and the room holds.
 fn read_some<'a>(input: &mut impl Read, n: usize, room: &'a mut [u8]) -> io::Result<&'a [u8]> {
-    let n = front(n, room);
+    let n = n.min(room.len());
     let read = io::copy(&mut input.take(n as u64), &mut &mut room[..n])?;
     // No more than the room: nothing is cut.
-    let read = front(read as usize, room);
+    let read = n.min(read as usize);
     Ok(&room[..read])
 }
 
 impl<R: Read + Drop> List<R> {
-    // Nothing where the input does not begin as a list does.
+    /// Nothing where the input does not begin as a list does.
     pub(crate) fn open(mut input: R) -> io::Result<Option<List<R>>> {
         let mut room = [0; 16];
         let head = read_some(&mut input, 16, &mut room)?;
@@ -51,20 +58,20 @@ impl<R: Read + Drop> List<R> {
         }
         Ok(Some(List {
             input,
-            plays: u32_at(head, 8),
-            sum: u32_at(head, 12),
+            plays: number(head, 8),
+            sum: number(head, 12),
             read: 0,
         }))
     }
 
-    // As `read_some`, and added to the sum.
+    /// As `read_some`, and added to the sum.
     fn read_summed<'a>(&mut self, n: usize, room: &'a mut [u8]) -> io::Result<&'a [u8]> {
         let bytes = read_some(&mut self.input, n, room)?;
         self.read = add_bytes(self.read, bytes);
         Ok(bytes)
     }
 
-    // The next play, in the room that is lent, or nothing where the list is cut.
+    /// The next play, in the room that is lent, or nothing where the list is cut.
     pub(crate) fn play<'a>(
         &mut self,
         records: &'a mut [u8; MOST_RECORDS],
@@ -75,8 +82,8 @@ impl<R: Read + Drop> List<R> {
         if head.len() < 8 {
             return Ok(None);
         }
-        let n = u32_at(head, 0) as usize;
-        let m = u32_at(head, 4) as usize;
+        let n = number(head, 0) as usize;
+        let m = number(head, 4) as usize;
         let records = self.read_summed(n, records)?;
         let sheet = self.read_summed(m, sheet)?;
         if records.len() < n || sheet.len() < m {
@@ -85,7 +92,7 @@ impl<R: Read + Drop> List<R> {
         Ok(Some(Play { records, sheet }))
     }
 
-    // Whether nothing follows, and the sum is the head's.
+    /// Whether nothing follows, and the sum is the head's.
     pub(crate) fn ends_well(&mut self) -> io::Result<bool> {
         let mut room = [0; 1];
         let more = self.read_summed(1, &mut room)?;

@@ -1,5 +1,5 @@
-// Replays a list of plays (oracle/README.md, "A list of plays") from standard input and says how many of its sheets are ours.
-// With an argument it prints our sheets instead, each under a line `# play N`, and passes over those of the list; with two, the whole state after each line.
+//! Replays a list of plays (oracle/README.md, "A list of plays") from standard input and says how many of its sheets are ours.
+//! With an argument it prints our sheets instead, each under a line `# play N`, and passes over those of the list; with two, the whole state after each line.
 #![tactic(auto)]
 
 mod list;
@@ -11,46 +11,34 @@ use sheet::key::key_sheet;
 use std::env::{Env, FillError};
 use std::io;
 use std::io::{Read, Write};
-use text::front;
 
-// Room for every sheet.
+/// Room for every sheet.
 const ROOM: usize = 48_195;
 
-#[derive(Clone, Copy)]
+#[derive(Clone, Copy, Debug, PartialEq, Eq)]
 enum Mode {
     Compare,
     Sheets,
     States,
 }
 
-#[derive(Clone, Copy)]
-enum Verdict {
-    Agrees,
-    Differs,
-}
-
-#[derive(Clone, Copy)]
+#[derive(Clone, Copy, Debug)]
 struct Count {
     agree: u64,
     differ: u64,
-    whole: bool,
 }
 
 fn print_title(out: &mut impl Write, index: u32) -> io::Result<()> {
     writeln!(out, "# play {index}")
 }
 
-// What is done with a play: our sheet is held to the list's, or printed.
-fn show(out: &mut impl Write, index: u32, mode: Mode, play: Play) -> io::Result<Verdict> {
+/// What is done with a play: our sheet is held to the list's, or printed. Whether it agrees.
+fn show(out: &mut impl Write, index: u32, mode: Mode, play: Play) -> io::Result<bool> {
     let mut room = [0; ROOM];
-    let length = front(key_sheet(play.records, &mut room), &room);
+    let length = ROOM.min(key_sheet(play.records, &mut room));
     let sheet = &room[..length];
     match mode {
-        Mode::Compare => {
-            if sheet != play.sheet {
-                return Ok(Verdict::Differs);
-            }
-        }
+        Mode::Compare => return Ok(sheet == play.sheet),
         Mode::Sheets => {
             print_title(out, index)?;
             out.write_all(sheet)?;
@@ -60,28 +48,32 @@ fn show(out: &mut impl Write, index: u32, mode: Mode, play: Play) -> io::Result<
             print_states(out, play.records)?;
         }
     }
-    Ok(Verdict::Agrees)
+    Ok(true)
 }
 
-fn all(list: &mut List<impl Read + Drop>, mode: Mode, out: &mut impl Write) -> io::Result<Count> {
+/// None where the list is cut.
+fn all(
+    list: &mut List<impl Read + Drop>,
+    mode: Mode,
+    out: &mut impl Write,
+) -> io::Result<Option<Count>> {
     let mut count = Count {
         agree: 0,
         differ: 0,
-        whole: true,
     };
     for index in 1..=list.plays {
         let mut records = [0; MOST_RECORDS];
         let mut sheet = [0; MOST_SHEET];
         let Some(play) = list.play(&mut records, &mut sheet)? else {
-            count.whole = false;
-            break;
+            return Ok(None);
         };
-        match show(out, index, mode, play)? {
-            Verdict::Agrees => count.agree += 1,
-            Verdict::Differs => count.differ += 1,
+        if show(out, index, mode, play)? {
+            count.agree += 1;
+        } else {
+            count.differ += 1;
         }
     }
-    Ok(count)
+    Ok(Some(count))
 }
 
 fn report(out: &mut impl Write, count: Count) -> io::Result<()> {
@@ -92,7 +84,7 @@ fn report(out: &mut impl Write, count: Count) -> io::Result<()> {
     )
 }
 
-// Whatever its bytes are.
+/// Whatever its bytes are.
 fn has_argument(rt: &impl Env, index: usize) -> bool {
     !matches!(rt.arg(index, &mut []), Err(FillError::NotPresent))
 }
@@ -113,12 +105,11 @@ fn main(rt: HostRuntime) -> io::Result<()> {
         return writeln!(out, "this is no list of plays");
     };
     let mode = mode_of(&rt);
-    let count = all(&mut list, mode, &mut out)?;
-    if !count.whole || !list.ends_well()? {
-        return writeln!(out, "the list is cut or damaged");
-    }
-    match mode {
-        Mode::Compare => report(&mut out, count),
-        Mode::Sheets | Mode::States => Ok(()),
+    match all(&mut list, mode, &mut out)? {
+        Some(count) if list.ends_well()? => match mode {
+            Mode::Compare => report(&mut out, count),
+            Mode::Sheets | Mode::States => Ok(()),
+        },
+        _ => writeln!(out, "the list is cut or damaged"),
     }
 }

@@ -1,35 +1,34 @@
--- The sheet in document 01's own words: laws for every list of bytes, by which the definitions of this folder can be believed.
-use Rattle.std.specs.Prelude.{ℕ, ◌+◌, ◌/◌, ◌%◌, ◌≤◌, ◌<◌, true, false, ◌≡◌, ◌↔◌, ◌⊎◌, List, [], ◌∷◌, ◌++◌, pos, negsuc, length, take, drop}
+-- The sheet in the words of docs/RULES.md (Sheet, Causes): laws for every list of bytes, by which the definitions of this folder can be believed.
+use Rattle.std.specs.Prelude.{ℕ, ◌+◌, ◌/◌, ◌%◌, ◌≤◌, ◌<◌, true, false, ◌≡◌, ◌↔◌, ◌⊎◌, List, [], ◌∷◌, ◌++◌, pos, negsuc, length, take, drop, Ok, Err}
 use Rattle.text.specs.Text.{ascii, digits}
 use Rattle.records.specs.Settings.{settings_read, settings_read_number}
-use Rattle.records.specs.declared.settings.SettingsRead.TheVariants as read
+use Rattle.records.specs.declared.settings.SettingsRefusal.TheVariants.{RecordWrong, MaxAbove254, MinAboveMax, LightingMin0}
 use Rattle.transitions.specs.declared.settings.Settings.{Settings}
 use Rattle.level_control.specs.Answer.{Outcome}
 use Rattle.level_control.specs.State.{new_state}
 use Rattle.level_control.specs.declared.state.LevelControlState.{LevelControlState}
 use Rattle.sheet.specs.Lines.{record_outcome, records_of, outcomes_of, outcome_line, lines_from, text_of}
 use Rattle.sheet.specs.Play.{length_ok, play_of, returned, refusal_text, key_of, printed}
-use Rattle.sheet.specs.declared.lines.Played.TheVariants.{Refused}
-use Rattle.sheet.specs.declared.lines.Refusal.{Refusal}
-use Rattle.sheet.specs.declared.lines.Refusal.TheVariants.{RecordWrong, MaxAbove254, MinAboveMax, LightingMin0, TextTooLong}
+use Rattle.sheet.specs.declared.refusal.Refusal.{Refusal}
+use Rattle.sheet.specs.declared.refusal.Refusal.TheVariants.{Settings as SettingsWrong, TextTooLong}
 
 pub record Laws : Type 0 where
-  -- "play length 20 to 5,120 in twenties"
+  -- the length of a play is 20 to 5,120 in twenties
   pub length_right : (n : ℕ) → (length_ok n ≡ true) ↔ ((20 ≤ n) × (n ≤ 5120) × (n % 20 ≡ 0))
-  -- "no refused call [alters] the lent output": what a refused call returns, and every byte of the output
-  pub refused_keeps : (records out : List ℕ) (why : Refusal) → (play_of records out).0 ≡ Refused why → (play_of records out).1 ≡ out
-  -- an accepted call: the text stands at the front, its length is returned, and "bytes past the text stay"
+  -- no refused call changes the output: what it returns, and every byte of the output
+  pub refused_keeps : (records out : List ℕ) (why : Refusal) → (play_of records out).0 ≡ Err why → (play_of records out).1 ≡ out
+  -- an accepted call: the text stands at the front, its length is returned, and the bytes past it stay
   pub text_stands : (records out : List ℕ) (settings : Settings)
-      → length_ok (length records) ≡ true → settings_read (take 20 records) ≡ read.Settings settings
+      → length_ok (length records) ≡ true → settings_read (take 20 records) ≡ Ok settings
       → length (text_of (new_state settings) (drop 20 records)) ≤ length out
       → let text = text_of (new_state settings) (drop 20 records) in
       returned (play_of records out) ≡ (pos (length text), text ++ drop (length text) out)
-  -- "-16" exactly where the text does not fit
+  -- minus 16 exactly where the text does not fit
   pub too_short : (records out : List ℕ) (settings : Settings)
-      → length_ok (length records) ≡ true → settings_read (take 20 records) ≡ read.Settings settings
+      → length_ok (length records) ≡ true → settings_read (take 20 records) ≡ Ok settings
       → length out < length (text_of (new_state settings) (drop 20 records))
       → returned (play_of records out) ≡ (negsuc 15, out)
-  -- "mark, flag, known bit 6 or 7, or unnamed byte wrong; play length": minus 1 exactly if the length or the settings' record is wrong
+  -- minus 1 exactly if the length or the settings' record is wrong
   pub minus_1 : (records out : List ℕ)
       → (returned (play_of records out) ≡ (negsuc 0, out))
       ↔ ((length_ok (length records) ≡ false) ⊎ (settings_read_number (settings_read (take 20 records)) ≡ 1))
@@ -37,28 +36,28 @@ pub record Laws : Type 0 where
   pub minus_2_3_4 : (records out : List ℕ) (n : ℕ) → 1 ≤ n → n ≤ 3
       → (returned (play_of records out) ≡ (negsuc n, out))
       ↔ ((length_ok (length records) ≡ true) × (settings_read_number (settings_read (take 20 records)) ≡ n + 1))
-  -- keysheet "prints that text": of an accepted play that fits; the rest of its output stays
+  -- keysheet prints the text of an accepted play that fits; the rest of its output stays
   pub prints_text : (records out : List ℕ) (settings : Settings)
-      → length_ok (length records) ≡ true → settings_read (take 20 records) ≡ read.Settings settings
+      → length_ok (length records) ≡ true → settings_read (take 20 records) ≡ Ok settings
       → length (text_of (new_state settings) (drop 20 records)) ≤ length out
       → let text = text_of (new_state settings) (drop 20 records) in
       (key_of records out ≡ (length text, text ++ drop (length text) out)) × (printed (key_of records out) ≡ text)
-  -- "or `0 `, the number and a line feed": the number that the C entry gives, if the line fits; the rest stays
+  -- or `0 `, the number that the C entry gives, and a line feed, if the line fits; the rest stays
   pub prints_number : (records out : List ℕ) (n : ℕ) → (returned (play_of records out)).0 ≡ negsuc n
       → let line = ascii "0 " ++ digits (n + 1) ++ ascii "\n" in
       length line ≤ length out
       → (key_of records out ≡ (length line, line ++ drop (length line) out)) × (printed (key_of records out) ≡ line)
   -- these lines, byte for byte
-  pub refusal_lines : (refusal_text RecordWrong ≡ 48 ∷ 32 ∷ 49 ∷ 10 ∷ [])
-      × (refusal_text MaxAbove254 ≡ 48 ∷ 32 ∷ 50 ∷ 10 ∷ [])
-      × (refusal_text MinAboveMax ≡ 48 ∷ 32 ∷ 51 ∷ 10 ∷ [])
-      × (refusal_text LightingMin0 ≡ 48 ∷ 32 ∷ 52 ∷ 10 ∷ [])
+  pub refusal_lines : (refusal_text (SettingsWrong RecordWrong) ≡ 48 ∷ 32 ∷ 49 ∷ 10 ∷ [])
+      × (refusal_text (SettingsWrong MaxAbove254) ≡ 48 ∷ 32 ∷ 50 ∷ 10 ∷ [])
+      × (refusal_text (SettingsWrong MinAboveMax) ≡ 48 ∷ 32 ∷ 51 ∷ 10 ∷ [])
+      × (refusal_text (SettingsWrong LightingMin0) ≡ 48 ∷ 32 ∷ 52 ∷ 10 ∷ [])
       × (refusal_text TextTooLong ≡ 48 ∷ 32 ∷ 49 ∷ 54 ∷ 10 ∷ [])
-  -- it "reads the same records": one byte more than a play may have is enough
+  -- keysheet reads one byte more than a play may have, which is enough
   pub reads_enough : (input out : List ℕ) → play_of (take 5121 input) out ≡ play_of input out
   -- the output keeps its length
   pub same_length : (records out : List ℕ) → length (play_of records out).1 ≡ length out
-  -- "index from 1": the first record's line has index 1, and each line one more than the line before it
+  -- the first record's line has index 1, and each line one more than the line before it
   pub first_line : (start : LevelControlState) (bytes rest : List ℕ) → length bytes ≡ 20
       → text_of start (bytes ++ rest)
       ≡ outcome_line 1 (record_outcome start bytes) ++ lines_from 2 (outcomes_of (record_outcome start bytes).state (records_of (length rest / 20) rest))

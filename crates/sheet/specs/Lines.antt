@@ -1,17 +1,21 @@
--- The text of a play: a line for each 20 bytes after the settings.
-use Rattle.std.specs.Prelude.{ℕ, zero, suc, ◌+◌, ◌/◌, List, [], ◌∷◌, ◌++◌, length, take, drop}
+-- Sheet: the text of a play, a line for each 20 bytes after the settings.
+use Rattle.std.specs.Prelude.{ℕ, zero, suc, ◌+◌, ◌/◌, List, [], ◌∷◌, ◌++◌, length, take, drop, Option, Some, None}
 use Rattle.text.specs.Line.{line_of}
 use Rattle.records.specs.Events.{event_read}
-use Rattle.records.specs.declared.events.EventRead.{EventRead}
-use Rattle.records.specs.declared.events.EventRead.TheVariants as read
+use Rattle.transitions.specs.declared.actions.Action.{Action}
+use Rattle.transitions.specs.declared.events.Event.{Event}
 use Rattle.level_control.specs.Answer.{Outcome, refused}
 use Rattle.level_control.specs.Events.{event_of}
 use Rattle.level_control.specs.declared.state.LevelControlState.{LevelControlState}
 
--- "a bad event record is one refused line", with number 1
-abbrev pub read_outcome : LevelControlState → EventRead → Outcome
-read_outcome s (read.Event e) = event_of s e
-read_outcome s read.RecordWrong = refused s 1
+-- what a record's event gives, by its parts
+abbrev pub outcome : ℕ → LevelControlState → List Action → Outcome
+outcome number s actions = record { number = number; state = s; actions = actions }
+
+-- a wrong event record is one refused line, with number 1
+abbrev pub read_outcome : LevelControlState → Option Event → Outcome
+read_outcome s (Some e) = event_of s e
+read_outcome s None = refused s 1
 
 unfoldable pub record_outcome : LevelControlState → List ℕ → Outcome
 record_outcome s bytes = read_outcome s (event_read bytes)
@@ -34,6 +38,6 @@ unfoldable pub lines_from : ℕ → List Outcome → List ℕ
 lines_from index [] = []
 lines_from index (o ∷ more) = outcome_line index o ++ lines_from (index + 1) more
 
--- "index from 1"
+-- the index counts from 1
 unfoldable pub text_of : LevelControlState → List ℕ → List ℕ
 text_of start events = lines_from 1 (outcomes_of start (records_of (length events / 20) events))

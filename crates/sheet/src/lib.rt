@@ -1,13 +1,14 @@
-// The sheet of a play: records in, text out (document 01, "Records" and "The sheet, whole").
+//! The sheet of a play: records in, text out (docs/RULES.md, Sheet).
 #![tactic(auto)]
 
 pub mod key;
-pub mod lines;
+mod lines;
 pub mod play;
+pub mod refusal;
 
 ghost use Rattle.sheet.specs.Laws.{Laws};
 
-// The sheet in document 01's own words: a theorem, and nothing to run.
+/// The sheet in the words of docs/RULES.md: a theorem, and nothing to run.
 #[tactic(auto, using(crate::proofs::LawsHold::sheet_laws))]
 pub fn sheet_laws_hold()
     ensures { Laws }

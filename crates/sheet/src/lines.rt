@@ -1,103 +1,78 @@
-// One line for each event of a play, each event in the state that the one before it left, and their text in a lent slice.
-ghost use Rattle.std.specs.Prelude.{◌≡◌, cond, ◌+◌, ◌*◌, ◌/◌, ◌≤◌, min, leb, length};
-ghost use Rattle.text.specs.Text.{Room, Wrote, most, put_whole};
-ghost use Rattle.level_control.specs.Answer.{outcome_of};
+//! One line for each event of a play, each event in the state that the one before it left, and their text in a lent slice.
+ghost use Rattle.std.specs.Prelude.{◌≡◌, ◌*◌, ◌/◌, ◌≤◌, min, leb, length};
+ghost use Rattle.text.specs.Text.{Room, Wrote, most};
+ghost use Rattle.level_control.specs.State.{new_state};
 ghost use Rattle.sheet.specs.Play.{fitted, written};
-ghost use Rattle.sheet.specs.Lines.{outcome_line, record_outcome, text_of};
+ghost use Rattle.sheet.specs.Lines.{outcome, record_outcome, text_of};
 
-use level_control::answer::Effect;
+use crate::refusal::Refusal;
 use level_control::state::LevelControlState;
-use records::events::{EventRead, read_event};
-use text::line::put_line;
+use records::events::read_event;
+use records::settings::SettingsRefusal;
+use text::line::{LONGEST, Line};
+use transitions::actions::Actions;
+use transitions::settings::Settings;
 
-// What a call is refused for; document 01's numbers 1, 2, 3, 4 and 16.
-#[derive(Clone, Copy)]
-pub enum Refusal {
-    RecordWrong,
-    MaxAbove254,
-    MinAboveMax,
-    LightingMin0,
-    TextTooLong,
-}
+/// The bytes of a record.
+pub(crate) const RECORD: usize = 20;
 
-#[derive(Clone, Copy)]
-pub enum Played {
-    Text(usize),
-    Refused(Refusal),
-}
-
-// A record's event in a state; a damaged record is refused with number 1.
+/// A record's event in a state: its number, that of a wrong record too, and its actions in place of those in the lent list.
 #[tactic(auto, unfolding(crate::specs::Lines::record_outcome))]
-pub fn record_event(state: LevelControlState, bytes: &[u8]) -> Effect
-    ensures { outcome_of result ≡ record_outcome state bytes.now }
+fn record_event(state: &mut LevelControlState, bytes: &[u8], actions: &mut Actions) -> u8
+    ensures { outcome result state.new actions.new ≡ record_outcome state.old bytes.now }
 {
-    match read_event(bytes) {
-        EventRead::Event(event) => state.effect(event),
-        EventRead::RecordWrong => Effect::refused(state, 1),
+    let Some(event) = read_event(bytes) else {
+        actions.clear();
+        return u8::from(SettingsRefusal::RecordWrong);
+    };
+    match state.handle(event, actions) {
+        Ok(()) => 0,
+        Err(refusal) => u8::from(refusal),
     }
 }
 
-// The line of what an event gave, where it has room; and the position past it.
-#[tactic(auto, unfolding(level_control::specs::Answer::outcome_of))]
-pub fn put_effect(out: &mut [u8], at: usize, index: u64, effect: Effect) -> usize
-    ensures out_after { (result, out.new) ≡ put_whole out.old at (outcome_line index (outcome_of effect)) }
-    ensures upper_bound { result ≤ at + 189 }
-{
-    let state = effect.state;
-    let level = state.current_level;
-    let remaining = state.remaining_time;
-    let actions = effect.actions;
-    put_line(out, at, index, effect.number, level, remaining, actions)
-}
-
-// The text at the front of out, or a refusal and out as it was. Where the text might be too long, it is measured first, with no room to write.
-// What is left over at the end, less than a record, is not read.
-pub fn fit(events: &[u8], start: LevelControlState, out: &mut [u8]) -> Played
-    ensures out_after { (result, out.new) ≡ fitted (text_of start events.now) out.old }
+/// The text at the front of out, or a refusal and out as it was. Where the text might be too long, it is measured first,
+/// with no room to write. What is left over at the end, less than a record, is not read.
+#[tactic(auto, using(crate::proofs::SheetLaws::fit_no, crate::proofs::SheetLaws::fit_yes))]
+pub(crate) fn fit(events: &[u8], settings: &Settings, out: &mut [u8]) -> Result<usize, Refusal>
+    ensures out_after { (result, out.new) ≡ fitted (text_of (new_state settings.now) events.now) out.old }
     ensures result_bound { written result ≤ 189 * (length events.now / 20) }
 {
-    let mut room = sure_room(events.len() / 20, out.len());
-    loop {
-        let need = put_each(events, start, &mut out[..room]);
-        if need <= room {
-            return Played::Text(need);
-        }
-        if out.len() < need {
-            return Played::Refused(Refusal::TextTooLong);
-        }
-        room = out.len();
+    if !surely_fits(events.len() / RECORD, out.len())
+        && out.len() < put_each(events, settings, &mut [])
+    {
+        return Err(Refusal::TextTooLong);
     }
+    Ok(put_each(events, settings, out))
 }
 
-// All of the room where that many lines fit in it at 189 bytes each, else none.
-fn sure_room(lines: usize, end: usize) -> usize
-    ensures { result ≡ cond (leb (189 * lines) end) end 0 }
+/// Whether that many lines fit in the room, however long they are.
+fn surely_fits(lines: usize, room: usize) -> bool
+    ensures { result ≡ leb (189 * lines) room }
 {
-    if lines <= end / 189 {
-        return end;
-    }
-    0
+    lines <= room / LONGEST
 }
 
-// Gives the position past all lines, and writes them where all of them have room; where not, out may hold some of them.
-#[tactic(auto, using(crate::proofs::SheetLaws::none_left), unfolding(crate::specs::Lines::text_of))]
-fn put_each(events: &[u8], start: LevelControlState, out: &mut [u8]) -> usize
-    ensures value { result ≡ min (length (text_of start events.now)) most }
-    ensures wrote { Room out.old 0 (text_of start events.now) → Wrote out.old 0 (text_of start events.now) out.new result }
+/// Gives the position past all lines, and writes them where all of them have room; where not, out may hold some of them.
+fn put_each(events: &[u8], settings: &Settings, out: &mut [u8]) -> usize
+    ensures value { result ≡ min (length (text_of (new_state settings.now) events.now)) most }
+    ensures wrote { Room out.old 0 (text_of (new_state settings.now) events.now) → Wrote out.old 0 (text_of (new_state settings.now) events.now) out.new result }
     ensures upper_bound { result ≤ 189 * (length events.now / 20) }
 {
-    let mut state = start;
+    let mut line = Line::new();
+    let mut actions = Actions::new();
+    let mut state = LevelControlState::new(*settings);
     let mut at = 0;
-    let mut from = 0;
-    let mut index = 1;
-    let mut left = events.len() / 20;
-    while 0 < left {
-        let effect = record_event(state, &events[from..from + 20]);
-        at = put_effect(out, at, index, effect);
-        state = effect.state;
-        from += 20;
-        index += 1;
-        left -= 1;
+    for (index, record) in (1..).zip(events.chunks_exact(RECORD)) {
+        let number = record_event(&mut state, record, &mut actions);
+        line.write(
+            index,
+            number,
+            state.current_level,
+            state.remaining_time,
+            &actions,
+        );
+        at = line.put(out, at);
     }
     at
 }

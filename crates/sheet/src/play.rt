@@ -1,57 +1,39 @@
-// A play: settings, then a line for each event.
+//! A play: settings, then a line for each event.
 ghost use Rattle.std.specs.Prelude.{◌≡◌, ◌≤◌};
 ghost use Rattle.sheet.specs.Play.{length_ok, play_of, returned, written};
 
-use crate::lines::{Played, Refusal, fit};
-use level_control::state::LevelControlState;
-use records::settings::{SettingsRead, read_settings};
+use crate::lines::{RECORD, fit};
+use crate::refusal::Refusal;
+use records::settings::{SettingsRefusal, read_settings};
 
-// 20 to 5,120 bytes in twenties.
+/// 20 to 5,120 bytes in twenties.
 #[tactic(auto, unfolding(crate::specs::Play::length_ok))]
-pub fn length_ok(n: usize) -> bool
-    ensures { result ≡ length_ok n }
+pub fn length_ok(length: usize) -> bool
+    ensures { result ≡ length_ok length }
 {
-    if n < 20 {
-        return false;
-    }
-    if 5120 < n {
-        return false;
-    }
-    n % 20 == 0
+    (20..=5_120).contains(&length) && length % RECORD == 0
 }
 
-// The sheet at the front of out, or a refusal and out as it was.
+/// The sheet at the front of out and its length, or a refusal and out as it was.
 #[tactic(auto, using(crate::proofs::SheetLaws::at_least, crate::proofs::SheetLaws::at_most, crate::proofs::SheetLaws::tail_is), unfolding(crate::specs::Play::play_of, crate::specs::Play::play_with))]
-pub fn play(records: &[u8], out: &mut [u8]) -> Played
+pub fn play(records: &[u8], out: &mut [u8]) -> Result<usize, Refusal>
     ensures out_after { (result, out.new) ≡ play_of records.now out.old }
     ensures result_bound { written result ≤ 48195 }
 {
-    if length_ok(records.len()) {
-        return match read_settings(&records[..20]) {
-            SettingsRead::Settings(settings) => {
-                fit(&records[20..], LevelControlState::new(settings), out)
-            }
-            SettingsRead::RecordWrong => Played::Refused(Refusal::RecordWrong),
-            SettingsRead::MaxAbove254 => Played::Refused(Refusal::MaxAbove254),
-            SettingsRead::MinAboveMax => Played::Refused(Refusal::MinAboveMax),
-            SettingsRead::LightingMin0 => Played::Refused(Refusal::LightingMin0),
-        };
+    if !length_ok(records.len()) {
+        return Err(SettingsRefusal::RecordWrong.into());
     }
-    Played::Refused(Refusal::RecordWrong)
+    let (first, events) = records.split_at(RECORD);
+    let settings = read_settings(first)?;
+    fit(events, &settings, out)
 }
 
-// The bytes written, or minus the number of the refusal: what the C entry gives, which `sheet_c` exports.
+/// The bytes written, or minus the number of the refusal: what the C entry gives, which `sheet_c` exports.
 pub fn level_control_play(records: &[u8], out: &mut [u8]) -> i32
     ensures { (result, out.new) ≡ returned (play_of records.now out.old) }
 {
     match play(records, out) {
-        Played::Text(n) => n as i32,
-        Played::Refused(why) => match why {
-            Refusal::RecordWrong => -1,
-            Refusal::MaxAbove254 => -2,
-            Refusal::MinAboveMax => -3,
-            Refusal::LightingMin0 => -4,
-            Refusal::TextTooLong => -16,
-        },
+        Ok(length) => length as i32,
+        Err(why) => -i32::from(u8::from(why)),
     }
 }

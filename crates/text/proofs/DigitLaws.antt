@@ -4,15 +4,15 @@ use Prim.Native.Char.{code}
 use mathlib.Core.Path.{◌≡◌, refl, sym, ap, ◌∙◌}
 use mathlib.Core.List.{List, [], ◌∷◌, ◌++◌, append_assoc}
 use native.Mathlib.Nat.{pow-succ'}
-use native.Mathlib.Numerals.{sub-one}
 use native.Mathlib.Omega.{arith}
 use borrow.Author.Tests.{lt-ltb, le-ltb}
-use lib.ListN.{length, get_or, set, drop, length-append, get_or-append}
-use lib.Seq.{append_snoc, sets}
+use lib.ListN.{length, get_or, length-append, get_or-append}
+use Rattle.std.proofs.lemmas.Fmt.{decimal_by_steps}
 use Rattle.std.proofs.lemmas.Grind.{common_steps}
-use Rattle.text.specs.Text.{Room, Wrote, most, digits, digits_within, three_digits}
+use Rattle.std.specs.Fmt.{decimal}
+use Rattle.text.specs.Text.{digits, digits_within, three_digits}
 use Rattle.text.specs.Laws.{read_after, read_digits, All, Digit}
-use Rattle.text.proofs.WriteLaws.{by_test, then, writes}
+use Rattle.text.proofs.WriteLaws.{by_test}
 
 within_one : (k x : ℕ) → x < 10 → digits_within (suc k) x ≡ (code "0" + x) ∷ []
 unfolding digits_within
@@ -59,44 +59,17 @@ digits_thousands x b h =
     ∙ rw (digits_more (x / 10) (omega arith) (omega arith), digits_more (x / 10 / 10) (omega arith) (omega arith), thousands, third, second, first)
     (simp append_assoc)
 
--- and where they are written
+pub digits_millions : (x : ℕ) → x < 2 ^ 64 → 1000000 ≤ x → digits x ≡ digits (x / 1000000) ++ three_digits (x / 1000 % 1000) ++ three_digits (x % 1000)
+digits_millions x b h =
+    let millions : x / 1000 / 1000 ≡ x / 1000000 = omega arith in
+    digits_thousands x b (omega arith) ∙ rw (digits_thousands (x / 1000) (omega arith) (omega arith), millions)
 
-pub sets_one : (old : List ℕ) (at x : ℕ) → x < 10 → sets old at (digits x) ≡ set old at (code "0" + x)
-sets_one old at x h = rw (digits_one x h)
+pub ruleset small = (digits_one, digits_two, digits_three, append_assoc, length-append, common_steps)
 
-pub sets_two : (old : List ℕ) (at x : ℕ) → 10 ≤ x → x < 100 → sets old at (digits x) ≡ set (set old at (code "0" + x / 10)) (suc at) (code "0" + x % 10)
-sets_two old at x h g = rw (digits_two x h g)
-
-pub length_one : (x : ℕ) → x < 10 → length (digits x) ≡ 1
-length_one x h = rw (digits_one x h)
-
-pub length_two : (x : ℕ) → 10 ≤ x → x < 100 → length (digits x) ≡ 2
-length_two x h g = rw (digits_two x h g)
-
-pub ruleset small = (sets_one, sets_two, length_one, length_two, digits_three, common_steps)
-
-pub ruleset thousands = (digits_thousands, writes)
-
--- digits that have room
-
-pub one_room : {x at : ℕ} {old : List ℕ} → x < 10 → Room old at (digits x) → at < length old
-one_room {x} h room = omega (arith, (rw (digits_one x h) at room).fits)
-
-pub two_room : {x at : ℕ} {old : List ℕ} → 10 ≤ x → x < 100 → Room old at (digits x) → at + 1 < length old
-two_room {x} h g room = omega (arith, (rw (digits_two x h g) at room).fits)
-
-pub three_room : {x at : ℕ} {old : List ℕ} → 100 ≤ x → x < 1000 → Room old at (digits x) → Room old at (three_digits x)
-three_room {x} h g room = rw (digits_three x h g) at room
-
-pub thousands_room : {x at : ℕ} {old : List ℕ} → x < 2 ^ 64 → 1000 ≤ x → Room old at (digits x) → Room old at (digits (x / 1000) ++ three_digits (x % 1000))
-thousands_room {x} b h room = rw (digits_thousands x b h) at room
-
--- the thousands, and the last three digits
-pub thousands_done : (x : ℕ) {old mid new : List ℕ} {at p r : ℕ} → x < 2 ^ 64 → 1000 ≤ x → length old ≤ most
-    → Wrote old at (digits (x / 1000)) mid p → Wrote mid p (three_digits (x % 1000)) new r → Wrote old at (digits x) new r
-thousands_done x b g h w v = rw (digits_thousands x b g) (then h w v)
+pub ruleset millions = (digits_thousands, digits_millions, append_assoc, length-append, common_steps)
 
 -- a number below 10^(k+1) has at most k+1 digits, and none has more than 20
+
 within_length : (j k x : ℕ) → x < 10 ^ suc k → length (digits_within j x) ≤ suc k
 unfolding digits_within
 within_length zero k x h = zero-le
@@ -118,14 +91,6 @@ within_some k x = by_test x 10
     (λ g. rw (within_one k x g) (omega arith))
     (λ g. rw (within_more k x g, length-append) (omega arith))
 
-pub digits_some : (x : ℕ) → 1 ≤ length (digits x)
-unfolding digits
-digits_some x = within_some 19 x
-
--- without its last digit a number is one shorter
-pub digits_shorter : (x : ℕ) → x < 2 ^ 64 → 10 ≤ x → length (digits x) ≡ length (digits (x / 10)) + 1
-digits_shorter x b h = rw (digits_more x b h, length-append)
-
 pub digits_below : (k x : ℕ) → x < 10 ^ suc k → length (digits x) ≤ suc k
 unfolding digits
 digits_below k x h = within_length 20 k x h
@@ -133,30 +98,6 @@ digits_below k x h = within_length 20 k x h
 pub digits_at_most : (x : ℕ) → length (digits x) ≤ 20
 unfolding digits
 digits_at_most x = within_at_most 20 x
-
--- Digits found from the last one on: those of `rest`, then those that the array has from `first` on.
-
--- where a second digit is left, a place is left for it
-pub place_left : (first rest : ℕ) → 10 ≤ rest → rest < 10 ^ first → (1 ≤ first) × (rest / 10 < 10 ^ (first - 1))
-place_left zero rest g h = absurd (omega arith)
-place_left (suc n) rest g h = rw sub-one (omega arith, omega (arith, pow-succ' 10 n))
-
-drop_set : (l : List ℕ) (i d : ℕ) → i < length l → drop i (set l i d) ≡ d ∷ drop (suc i) l
-drop_set [] i d h = absurd (omega arith)
-drop_set (y ∷ l) zero d h = refl
-drop_set (y ∷ l) (suc i) d h = drop_set l i d (omega arith)
-
--- the last digit of `rest` put before those found
-pub digit_found : (x rest first : ℕ) (tail : List ℕ) → rest < 2 ^ 64 → 10 ≤ rest → 1 ≤ first → first ≤ length tail
-    → digits x ≡ digits rest ++ drop first tail → digits x ≡ digits (rest / 10) ++ drop (first - 1) (set tail (first - 1) (code "0" + rest % 10))
-digit_found x rest zero tail b g p h e = absurd (omega arith)
-digit_found x rest (suc i) tail b g p h e =
-    rw (sub-one, drop_set tail i (code "0" + rest % 10) (omega arith)) (e ∙ rw (digits_more rest b g) (append_snoc (digits (rest / 10)) (code "0" + rest % 10) (drop (suc i) tail)))
-
--- the first digit, and those found
-pub decimal_done : (x rest : ℕ) {tail old mid new : List ℕ} {at p r : ℕ} → rest < 10 → length old ≤ most → digits x ≡ digits rest ++ tail
-    → Wrote old at ((code "0" + rest) ∷ []) mid p → Wrote mid p tail new r → Wrote old at (digits x) new r
-decimal_done x rest g h e w v = rw (e, digits_one rest g) (then h w v)
 
 -- the last digit counts one, those before it ten
 read_last : (n : ℕ) (ds : List ℕ) (d : ℕ) → read_after n (ds ++ (d ∷ [])) ≡ 10 * read_after n ds + (d - code "0")
@@ -199,3 +140,10 @@ within_first (suc k) x h p = by_test x 10
 pub first_digit : (x : ℕ) → x < 2 ^ 64 → 10 ≤ x → get_or (digits x) 0 (code "0") ≡ code "0" → ⊥
 unfolding digits
 first_digit x b h e = omega (arith, within_first 19 x (omega arith) (omega arith))
+
+-- the library's decimal is the same
+pub digits_decimal : (x : ℕ) → x < 2 ^ 64 → digits x ≡ decimal x
+digits_decimal x h = decimal_by_steps (λ n ds. n < 2 ^ 64 → digits n ≡ ds)
+    (λ n g b. digits_one n g)
+    (λ n ds g e b. digits_more n b g ∙ ap (λ (l : List ℕ). l ++ ((code "0" + n % 10) ∷ [])) (e (omega arith)))
+    x h h

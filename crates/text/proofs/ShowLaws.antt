@@ -7,12 +7,11 @@ use mathlib.Core.List.{List, [], ◌∷◌, ◌++◌, append_assoc, append-nil}
 use native.Mathlib.Omega.{arith}
 use borrow.Author.Tests.{ne_eqb}
 use lib.Dec.{lit≤}
+use Rattle.std.specs.Prelude.{Option, Some, None}
 use Rattle.units.specs.declared.Tenths.{Tenths}
-use Rattle.transitions.specs.declared.events.Action.{Action}
-use Rattle.transitions.specs.declared.events.ActionKind.{ActionKind}
-use Rattle.transitions.specs.declared.events.ActionKind.TheVariants.{D, P, S, C, L, R, W, E, K, X}
-use Rattle.transitions.specs.declared.types.Level.{Level}
-use Rattle.transitions.specs.declared.types.Level.TheVariants.{Known, Missing}
+use Rattle.transitions.specs.declared.actions.Action.{Action}
+use Rattle.transitions.specs.declared.actions.ActionKind.{ActionKind}
+use Rattle.transitions.specs.declared.actions.ActionKind.TheVariants.{D, P, S, C, L, R, W, E, K, X}
 use Rattle.text.specs.Text.{digits}
 use Rattle.text.specs.Line.{letter_of, shows_value, level_text, action_text, actions_text, line_of}
 use Rattle.text.specs.Laws.{All, Digit, Printable, split, action_word, action_words, Shows}
@@ -52,10 +51,10 @@ shown_marks false x = tt
 word_marks : (a : Action) → All Mark (action_word a)
 word_marks a = (letter_mark a.kind, shown_marks (shows_value a.kind) a.value)
 
-level_marks : (l : Level) → All Mark (level_text l)
+level_marks : (l : Option ℕ) → All Mark (level_text l)
 unfolding level_text
-level_marks (Known l) = number_marks l
-level_marks Missing = ((lit≤ tt, lit≤ tt), tt)
+level_marks (Some l) = number_marks l
+level_marks None = ((lit≤ tt, lit≤ tt), tt)
 
 -- a word, a space and the rest are cut into the word and the rest's words
 cut_word : (w s : List ℕ) → All Mark w → split (w ++ (code " " ∷ s)) ≡ w ∷ split s
@@ -78,7 +77,7 @@ unfolding actions_text action_text
 actions_printable [] = tt
 actions_printable (x ∷ xs) = ((lit≤ tt, lit≤ tt), all_append Printable (action_word x) (actions_text xs) (weaker (action_word x) (word_marks x)) (actions_printable xs))
 
-module _ (index number : ℕ) (level : Level) (remaining : Tenths) (actions : List Action) where
+module _ (index number : ℕ) (level : Option ℕ) (remaining : Tenths) (actions : List Action) where
   abbrev shown : List ℕ
   shown = digits index ++ (code " " ∷ (digits number ++ (code " " ∷ (level_text level ++ (code " " ∷ (digits remaining.0 ++ actions_text actions))))))
 

@@ -1,4 +1,4 @@
--- The text in document 01's words: proofs of specs/Laws.antt. Assumes nothing.
+-- Proofs of specs/Laws.antt. Assumes nothing.
 use Prim.Native.Nat.{ℕ, ◌+◌, ◌≤◌, ◌<◌, min}
 use mathlib.Core.Path.{◌≡◌, refl, ◌∙◌}
 use mathlib.Core.Logic.{◌↔◌}
@@ -10,7 +10,7 @@ use lib.Seq.{sets-eq}
 use Rattle.text.specs.Text.{most, Wrote, digits, digits_within, put_whole}
 use Rattle.text.specs.Line.{level_text, action_text, actions_text, line_of}
 use Rattle.text.specs.Laws.{Laws}
-use Rattle.text.proofs.DigitLaws.{digits_read, digits_only, first_digit, digits_below}
+use Rattle.text.proofs.DigitLaws.{digits_decimal, digits_read, digits_only, first_digit, digits_below}
 use Rattle.text.proofs.LineLaws.{line_length}
 use Rattle.text.proofs.ShowLaws.{line_shows}
 
@@ -35,6 +35,7 @@ whole_keeps old at text f = (refl, rw (lt-leb (at + length text) (length old) f)
 pub text_laws : Laws
 unfolding line_of level_text action_text actions_text digits digits_within
 text_laws = record {
+  digits_decimal = digits_decimal;
   digits_read = digits_read;
   digits_only = digits_only;
   no_leading_zero = first_digit;
@@ -43,6 +44,7 @@ text_laws = record {
   line_length = line_length;
   sheet = refl;
   other_letters = refl;
+  refusals = (refl, refl, refl, refl, refl);
   stands = stands;
   too_long = too_long;
   whole_stands = whole_stands;

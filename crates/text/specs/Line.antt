@@ -1,12 +1,11 @@
--- "Line: index from 1, number, level or `-`, remaining tenths, actions, single spaces between, a line feed after".
-use Rattle.std.specs.Prelude.{ℕ, Bool, true, false, cond, List, [], ◌∷◌, ◌++◌}
+-- Sheet: a line has the index from 1, the number, the level or `-`, the remaining tenths and the actions,
+-- single spaces between, a line feed after.
+use Rattle.std.specs.Prelude.{ℕ, Bool, true, false, cond, List, [], ◌∷◌, ◌++◌, Option, Some, None}
 use Prim.Native.Char.{code}
 use Rattle.units.specs.declared.Tenths.{Tenths}
-use Rattle.transitions.specs.declared.events.Action.{Action}
-use Rattle.transitions.specs.declared.events.ActionKind.{ActionKind}
-use Rattle.transitions.specs.declared.events.ActionKind.TheVariants.{D, P, S, C, L, R, W, E, K, X}
-use Rattle.transitions.specs.declared.types.Level.{Level}
-use Rattle.transitions.specs.declared.types.Level.TheVariants.{Known, Missing}
+use Rattle.transitions.specs.declared.actions.Action.{Action}
+use Rattle.transitions.specs.declared.actions.ActionKind.{ActionKind}
+use Rattle.transitions.specs.declared.actions.ActionKind.TheVariants.{D, P, S, C, L, R, W, E, K, X}
 use Rattle.text.specs.Text.{ascii, digits}
 
 abbrev pub letter_of : ActionKind → ℕ
@@ -21,7 +20,7 @@ letter_of E = code "E"
 letter_of K = code "K"
 letter_of X = code "X"
 
--- "D level, C 0/1, W µs, E number": these are followed by their value, the others stand alone
+-- D is followed by its level, C by 0 or 1, W by a time in µs and E by its number; the others stand alone
 abbrev pub shows_value : ActionKind → Bool
 shows_value D = true
 shows_value P = false
@@ -34,14 +33,10 @@ shows_value E = true
 shows_value K = false
 shows_value X = false
 
--- "level or `-`"
-unfoldable pub level_text : Level → List ℕ
-level_text (Known l) = digits l
-level_text Missing = ascii "-"
-
--- a space and a letter: an action with no value
-abbrev pub word_text : ℕ → List ℕ
-word_text letter = ascii " " ++ (letter ∷ [])
+-- the level, or `-`
+unfoldable pub level_text : Option ℕ → List ℕ
+level_text (Some level) = digits level
+level_text None = ascii "-"
 
 unfoldable pub action_text : Action → List ℕ
 action_text a = ascii " " ++ (letter_of a.kind ∷ []) ++ cond (shows_value a.kind) (digits a.value) []
@@ -51,12 +46,16 @@ actions_text [] = []
 actions_text (a ∷ more) = action_text a ++ actions_text more
 
 -- a line up to its actions
-abbrev pub numbers_text : ℕ → ℕ → Level → Tenths → List ℕ
+abbrev pub numbers_text : ℕ → ℕ → Option ℕ → Tenths → List ℕ
 numbers_text index number level remaining =
     digits index ++ ascii " " ++ digits number ++ ascii " " ++ level_text level ++ ascii " " ++ digits remaining.0
 
-unfoldable pub line_of : ℕ → ℕ → Level → Tenths → List Action → List ℕ
+unfoldable pub line_of : ℕ → ℕ → Option ℕ → Tenths → List Action → List ℕ
 line_of index number level remaining actions =
     numbers_text index number level remaining
     ++ actions_text actions
     ++ ascii "\n"
+
+-- the line of a refused play: 0, the number of the refusal, a line feed
+abbrev pub refusal_line : ℕ → List ℕ
+refusal_line number = ascii "0 " ++ digits number ++ ascii "\n"

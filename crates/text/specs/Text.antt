@@ -1,4 +1,4 @@
--- What a writer leaves in a slice, and the decimal digits of a number.
+-- Sheet: what a writer leaves in a slice, and the decimal digits of a number.
 use Rattle.std.specs.Prelude.{ℕ, zero, suc, ◌+◌, ◌/◌, ◌%◌, ◌≤◌, min, ◌≡◌, cond, List, [], ◌∷◌, ◌++◌, leb, ltb, length}
 use Prim.Native.Char.{code}
 use Prim.Native.String.{String}

@@ -1,5 +1,4 @@
 pub mod Booleans
-pub mod ActionListLaws
 pub mod SearchLaws
 pub mod SceneLaws
 pub mod ValueLaws

@@ -1,4 +1,5 @@
 -- Where the rules are what the Matter document says: proofs of specs/Matter.antt. Assumes nothing.
+use Rattle.std.specs.Prelude.{Some, None, Ok, Err}
 use Prim.Native.Nat.{ℕ, zero, suc, ◌+◌, ◌-◌, ◌%◌, ◌≤◌, min, max}
 use mathlib.Core.Bool.{Bool, true, false, cond, ◌&&◌, ◌||◌, not, beq, or-true, or-false, and_comm}
 use mathlib.Core.Path.{◌≡◌, refl, sym, ap, ◌∙◌}
@@ -17,17 +18,12 @@ use Rattle.transitions.specs.CurrentLevel.{second, current_level_due}
 use Rattle.transitions.specs.Coupling.{coupled_on_off}
 use Rattle.transitions.specs.Commands.{step_level, step_time, rate_in_force}
 use Rattle.transitions.specs.Matter.{executes, changed, level_reportable, time_reportable, increased, decreased, move_rate, on_off_after, after_sent, ProportionallyReduced, Agreement}
-use Rattle.transitions.specs.declared.types.Level.{Level}
-use Rattle.transitions.specs.declared.types.Level.TheVariants.{Known, Missing}
+use Rattle.transitions.specs.Types.{Level}
 use Rattle.transitions.specs.declared.types.Mode.TheVariants.{Up, Down}
-use Rattle.transitions.specs.declared.types.Rate.{Rate}
-use Rattle.transitions.specs.declared.types.Rate.TheVariants as rate
-use Rattle.transitions.specs.declared.types.Time.TheVariants as time
+use Rattle.transitions.specs.Types.{Rate}
 use Rattle.transitions.specs.declared.types.OptionsBitmap.{OptionsBitmap}
-use Rattle.transitions.specs.declared.coupling.Coupling.TheVariants.{Sent, NotSent}
-use Rattle.transitions.specs.declared.commands.StepTime.TheVariants.{Overflow}
-use Rattle.transitions.specs.declared.commands.MoveRate.TheVariants.{Goes, InvalidCommand}
 use Rattle.transitions.proofs.RuleLaws.{rule_laws}
+use Rattle.transitions.specs.declared.causes.Refusal.TheVariants.{InvalidCommand, ProductTooLarge}
 
 -- options
 
@@ -51,12 +47,12 @@ options w c on o m v =
 level_report : (last now : Micros) (end : Bool) (old new : Level) → changed old new ≡ true
     → current_level_due second last now end old new ≡ level_reportable (now.0 - last.0) end old new
 unfolding current_level_due level_reportable
-level_report last now end (Known a) (Known b) e = simp (e, or-false)
-level_report last now end (Known a) Missing e = simp (or-true)
-level_report last now end Missing (Known b) e = simp (or-true, or-false)
-level_report last now end Missing Missing e = absurd (let z : ◌≡◌ {A = ℕ} 0 1 = cc in omega arith)
+level_report last now end (Some a) (Some b) e = simp (e, or-false)
+level_report last now end (Some a) None e = simp (or-true)
+level_report last now end None (Some b) e = simp (or-true, or-false)
+level_report last now end None None e = absurd (let z : ◌≡◌ {A = ℕ} 0 1 = cc in omega arith)
 
-level_report_parts : (current_level_due second (micros 0) (micros 0) true (Known 10) (Known 10) ≡ true) × (level_reportable 0 true (Known 10) (Known 10) ≡ false)
+level_report_parts : (current_level_due second (micros 0) (micros 0) true (Some 10) (Some 10) ≡ true) × (level_reportable 0 true (Some 10) (Some 10) ≡ false)
 unfolding current_level_due level_reportable
 level_report_parts = (refl, refl)
 
@@ -115,30 +111,30 @@ unfolding step_level
 step_down level size lo hi h = down size level lo h
 
 -- the product of 40,000 tenths and 2 levels is too large, though a third of it would not be
-step_time_parts : (step_time (time.Known (tenths 40000)) 2 3 ≡ Overflow) × ProportionallyReduced 40000 2 3 26666
+step_time_parts : (step_time (Some (tenths 40000)) 2 3 ≡ (Err ProductTooLarge)) × ProportionallyReduced 40000 2 3 26666
 unfolding step_time scaled_floor
 step_time_parts = (refl, (omega arith, omega arith))
 
 -- rates
 
 rate_is : (given default : Rate) (fastest : ℕ) → rate_or given default fastest ≡ move_rate given default fastest
-rate_is (rate.Known r) default fastest = refl
-rate_is rate.Missing (rate.Known r) fastest = refl
-rate_is rate.Missing rate.Missing fastest = refl
+rate_is (Some r) default fastest = refl
+rate_is None (Some r) fastest = refl
+rate_is None None fastest = refl
 
 rates : (given default : Rate) (fastest : ℕ) → 1 ≤ move_rate given default fastest
-    → rate_in_force given default fastest ≡ Goes (move_rate given default fastest)
+    → rate_in_force given default fastest ≡ Ok (move_rate given default fastest)
 unfolding rate_in_force
 rates given default fastest h =
     simp (rate_is given default fastest, ne_eqb (move_rate given default fastest) 0 (λ z. omega arith))
 
-rate_parts : (given default : Rate) (fastest : ℕ) → move_rate given default fastest ≡ 0 → rate_in_force given default fastest ≡ InvalidCommand
+rate_parts : (given default : Rate) (fastest : ℕ) → move_rate given default fastest ≡ 0 → rate_in_force given default fastest ≡ (Err InvalidCommand)
 unfolding rate_in_force
 rate_parts given default fastest h = simp (rate_is given default fastest, eq-eqb (move_rate given default fastest) 0 h)
 
 -- the coupling
 
-after : (w c x on : Bool) → after_sent on (cond (w && c && not (beq x on)) (Sent x) NotSent) ≡ cond (w && c) x on
+after : (w c x on : Bool) → after_sent on (cond (w && c && not (beq x on)) (Some x) None) ≡ cond (w && c) x on
 after false c x on = refl
 after true false x on = refl
 after true true true true = refl

@@ -1,4 +1,5 @@
--- The rules in document 01's words: proofs of specs/Laws.antt. Assumes nothing.
+-- The rules in the words of docs/RULES.md: proofs of specs/Laws.antt. Assumes nothing.
+use Rattle.std.specs.Prelude.{Option, Some, None, Result, Ok, Err}
 use Prim.Native.Nat.{ℕ, ◌+◌, ◌-◌, ◌*◌, ◌/◌, ◌≤◌, ◌<◌}
 use mathlib.Core.Bool.{Bool, true, false, cond, ◌&&◌, ◌||◌, not, beq, true≢false, false≢true, or-false, or-true}
 use mathlib.Core.Path.{◌≡◌, refl, sym, ap, ◌∙◌}
@@ -27,27 +28,22 @@ use Rattle.transitions.specs.Moves.{move_period}
 use Rattle.transitions.specs.Scene.{Pair, pairs, decides, scene_level}
 use Rattle.transitions.specs.Causes.{Row, rows, first_cause}
 use Rattle.transitions.specs.Laws.{Laws}
-use Rattle.transitions.specs.declared.types.Level.{Level}
-use Rattle.transitions.specs.declared.types.Level.TheVariants.{Known, Missing}
-use Rattle.transitions.specs.declared.types.Rate.{Rate}
-use Rattle.transitions.specs.declared.types.Time.TheVariants as time
+use Rattle.transitions.specs.Types.{Level}
+use Rattle.transitions.specs.Types.{Rate}
 use Rattle.transitions.specs.declared.types.OptionsBitmap.{OptionsBitmap}
-use Rattle.transitions.specs.declared.causes.Tests.{Tests}
-use Rattle.transitions.specs.declared.coupling.Coupling.{Coupling}
-use Rattle.transitions.specs.declared.coupling.Coupling.TheVariants.{Sent, NotSent}
-use Rattle.transitions.specs.declared.events.ActionKind.TheVariants.{C}
-use Rattle.transitions.specs.declared.commands.StepTime.TheVariants.{Takes, Overflow}
-use Rattle.transitions.specs.declared.commands.MoveRate.TheVariants.{Goes, InvalidCommand}
-use Rattle.transitions.specs.declared.fade.Next.TheVariants.{Wait, Ask}
+use Rattle.transitions.specs.Causes.{Tests}
+use Rattle.transitions.specs.declared.actions.ActionKind.TheVariants.{C}
 use Rattle.transitions.proofs.Booleans.{or_cases, or_first, or_second, and_first, and_second, and_both}
 use Rattle.transitions.proofs.SearchLaws.{found, missed, either}
 use Rattle.transitions.proofs.TaskLaws as task
 use Rattle.transitions.proofs.TaskLaws.{none_is_not_one, one_is, one}
-use Rattle.transitions.proofs.ActionListLaws as list
+use Rattle.std.proofs.lemmas.List.{length-take, take_all}
 use Rattle.transitions.proofs.ValueLaws as value
 use Rattle.transitions.proofs.ValueLaws.{known_is}
+use Rattle.transitions.specs.declared.causes.Refusal.{Refusal}
+use Rattle.transitions.specs.declared.causes.Refusal.TheVariants.{InvalidCommand, ProductTooLarge}
 
--- Part 2
+-- Remaining time
 
 abbrev Reported : Tenths → Tenths → Bool → Type 0
 Reported old new start =
@@ -88,7 +84,7 @@ remaining_report : (old new : Tenths) (start : Bool) → (remaining_time_due old
 unfolding remaining_time_due
 remaining_report old new start = (reported old new start, due old new start)
 
--- Part 3
+-- Options
 
 stop : (w c on m v o : Bool)
     → (cond w true (cond c (cond on true (cond m v o)) true) ≡ false)
@@ -106,10 +102,10 @@ options_stop : (w c on : Bool) (o m v : OptionsBitmap)
 unfolding should_continue
 options_stop w c on o m v = stop w c on (executes_if_off m) (executes_if_off v) (executes_if_off o)
 
--- Part 4
+-- Level reports
 
 level_report : (gap last now : Micros) (old new : ℕ) → 1 ≤ gap.0
-    → (current_level_due gap last now false (Known old) (Known new) ≡ true) ↔ (last.0 + gap.0 ≤ now.0)
+    → (current_level_due gap last now false (Some old) (Some new) ≡ true) ↔ (last.0 + gap.0 ≤ now.0)
 unfolding current_level_due
 level_report gap last now old new h =
     (λ e. let g : gap.0 ≤ now.0 - last.0 = leb-true _ _ (simp or-false at e) in omega arith, λ g. simp (le-leb gap.0 (now.0 - last.0) (omega arith)))
@@ -120,17 +116,17 @@ end_report gap last now old new =
     or_first _ _ (or_first _ _ (or_second (leb gap.0 (now.0 - last.0)) true refl))
 
 missing_report : (gap last now : Micros) (end : Bool) (l : Level)
-    → (current_level_due gap last now end Missing l ≡ true) × (current_level_due gap last now end l Missing ≡ true)
+    → (current_level_due gap last now end None l ≡ true) × (current_level_due gap last now end l None ≡ true)
 unfolding current_level_due
 missing_report gap last now end l = (simp or-true, simp or-true)
 
--- Part 5
+-- Coupling
 
 abbrev Differs : Bool → ℕ → ℕ → ℕ → Type 0
 Differs on min level v = ((v ≡ 1) × (min < level) × (on ≡ false)) ⊎ ((v ≡ 0) × (level ≤ min) × (on ≡ true))
 
 sent : (w c x on : Bool) (min level v : ℕ) → ltb min level ≡ x
-    → (coupled_values (cond (w && c && not (beq x on)) (Sent x) NotSent) ≡ v ∷ []) ↔ ((w ≡ true) × (c ≡ true) × Differs on min level v)
+    → (coupled_values (cond (w && c && not (beq x on)) (Some x) None) ≡ v ∷ []) ↔ ((w ≡ true) × (c ≡ true) × Differs on min level v)
 sent false c x on min level v e = (λ h. absurd (none_is_not_one v h), λ h. absurd (false≢true h.0))
 sent true false x on min level v e = (λ h. absurd (none_is_not_one v h), λ h. absurd (false≢true h.1))
 sent true true true true min level v e = (
@@ -155,11 +151,11 @@ coupling : (w c on : Bool) (min level v : ℕ)
 unfolding coupled_on_off
 coupling w c on min level v = sent w c (ltb min level) on min level v refl
 
-coupling_action : (c : Coupling) (v : ℕ) → (coupled_values c ≡ v ∷ [] → act_coupled c ≡ act C v) × (coupled_values c ≡ [] → act_coupled c ≡ [])
-coupling_action (Sent wanted) v = (λ h. ap (act C) (one_is (cond wanted 1 0) v h), λ h. absurd (none_is_not_one (cond wanted 1 0) (sym h)))
-coupling_action NotSent v = (λ h. absurd (none_is_not_one v h), λ h. refl)
+coupling_action : (c : Option Bool) (v : ℕ) → (coupled_values c ≡ v ∷ [] → act_coupled c ≡ act C v) × (coupled_values c ≡ [] → act_coupled c ≡ [])
+coupling_action (Some wanted) v = (λ h. ap (act C) (one_is (cond wanted 1 0) v h), λ h. absurd (none_is_not_one (cond wanted 1 0) (sym h)))
+coupling_action None v = (λ h. absurd (none_is_not_one v h), λ h. refl)
 
--- Part 6
+-- Targets, Steps and the rate of Moves
 
 -- the two ways of a target
 pub target_kept : (level lo hi : ℕ) → 254 < level → target_level level lo hi ≡ level
@@ -171,23 +167,23 @@ unfolding target_level
 target_clamped level lo hi h = simp (le-ltb 254 level h)
 
 -- the three ways of a step's time
-same_size : (given actual size : ℕ) → actual ≡ size → step_time (time.Known (tenths given)) actual size ≡ Takes (tenths given)
+same_size : (given actual size : ℕ) → actual ≡ size → step_time (Some (tenths given)) actual size ≡ Ok (tenths given)
 unfolding step_time
 same_size given actual size e = simp (eq-eqb actual size e)
 
-too_large : (given actual size : ℕ) → (actual ≡ size → ⊥) → 65535 < given * actual → step_time (time.Known (tenths given)) actual size ≡ Overflow
+too_large : (given actual size : ℕ) → (actual ≡ size → ⊥) → 65535 < given * actual → step_time (Some (tenths given)) actual size ≡ (Err ProductTooLarge)
 unfolding step_time scaled_floor
 too_large given actual size e h = simp (ne_eqb actual size e, lt-ltb 65535 (given * actual) h)
 
 in_proportion : (given actual size : ℕ) → (actual ≡ size → ⊥) → given * actual ≤ 65535
-    → step_time (time.Known (tenths given)) actual size ≡ Takes (tenths (given * actual / size))
+    → step_time (Some (tenths given)) actual size ≡ Ok (tenths (given * actual / size))
 unfolding step_time scaled_floor
 in_proportion given actual size e h = simp (ne_eqb actual size e, le-ltb 65535 (given * actual) h)
 
-takes_is : (s t : Tenths) → Takes s ≡ Takes t → s.0 ≡ t.0
+takes_is : (s t : Tenths) → ◌≡◌ {A = Result Tenths Refusal} (Ok s) (Ok t) → s.0 ≡ t.0
 takes_is s t e = ap (λ (x : Tenths). x.0) (cc)
 
-module _ (given actual size : ℕ) (t : Tenths) (pos : 1 ≤ size) (h : step_time (time.Known (tenths given)) actual size ≡ Takes t) where
+module _ (given actual size : ℕ) (t : Tenths) (pos : 1 ≤ size) (h : step_time (Some (tenths given)) actual size ≡ Ok t) where
   step_time_rounds : (size * t.0 ≤ given * actual) × (given * actual < size * (t.0 + 1))
   step_time_rounds = go (eqb actual size) refl (ltb 65535 (given * actual)) refl
     where
@@ -202,15 +198,15 @@ module _ (given actual size : ℕ) (t : Tenths) (pos : 1 ≤ size) (h : step_tim
           rw (← time) (mul-div-le (given * actual) size, lt-mul-div-succ (given * actual) pos)
 
 step_12 : (given actual size : ℕ)
-    → (step_time_number (step_time (time.Known (tenths given)) actual size) ≡ 12) ↔ ((actual ≡ size → ⊥) × (65535 < given * actual))
+    → (step_time_number (step_time (Some (tenths given)) actual size) ≡ 12) ↔ ((actual ≡ size → ⊥) × (65535 < given * actual))
 step_12 given actual size = (go (eqb actual size) refl (ltb 65535 (given * actual)) refl, λ h. ap step_time_number (too_large given actual size h.0 h.1))
   where
-    go : (b : Bool) → eqb actual size ≡ b → (c : Bool) → ltb 65535 (given * actual) ≡ c → step_time_number (step_time (time.Known (tenths given)) actual size) ≡ 12 → (actual ≡ size → ⊥) × (65535 < given * actual)
+    go : (b : Bool) → eqb actual size ≡ b → (c : Bool) → ltb 65535 (given * actual) ≡ c → step_time_number (step_time (Some (tenths given)) actual size) ≡ 12 → (actual ≡ size → ⊥) × (65535 < given * actual)
     go true e c f h = absurd (let z : ◌≡◌ {A = ℕ} 0 12 = sym (ap step_time_number (same_size given actual size (eqb-true actual size e))) ∙ h in omega arith)
     go false e true f h = (eqb-false actual size e, ltb-true 65535 (given * actual) f)
     go false e false f h = absurd (let z : ◌≡◌ {A = ℕ} 0 12 = sym (ap step_time_number (in_proportion given actual size (eqb-false actual size e) (ltb-false 65535 (given * actual) f))) ∙ h in omega arith)
 
-step_no_time : (actual size : ℕ) → step_time time.Missing actual size ≡ Takes (tenths 0)
+step_no_time : (actual size : ℕ) → step_time None actual size ≡ Ok (tenths 0)
 unfolding step_time
 step_no_time actual size = refl
 
@@ -220,16 +216,16 @@ unfolding rate_in_force
 rate_10 given default fastest = go (eqb (rate_or given default fastest) 0) refl
   where
     go : (b : Bool) → eqb (rate_or given default fastest) 0 ≡ b
-        → (move_rate_number (cond (eqb (rate_or given default fastest) 0) InvalidCommand (Goes (rate_or given default fastest))) ≡ 10) ↔ (rate_or given default fastest ≡ 0)
+        → (move_rate_number (cond (eqb (rate_or given default fastest) 0) (Err InvalidCommand) (Ok (rate_or given default fastest))) ≡ 10) ↔ (rate_or given default fastest ≡ 0)
     go true e = (λ h. eqb-true (rate_or given default fastest) 0 e, λ z. rw e refl)
     go false e = (λ h. absurd (let z : ◌≡◌ {A = ℕ} 0 10 = rw e at h in omega arith), λ z. absurd (eqb-false (rate_or given default fastest) 0 e z))
 
 rate_taken : (given default : Rate) (fastest : ℕ) → 1 ≤ rate_or given default fastest
-    → rate_in_force given default fastest ≡ Goes (rate_or given default fastest)
+    → rate_in_force given default fastest ≡ Ok (rate_or given default fastest)
 unfolding rate_in_force
 rate_taken given default fastest h = simp (ne_eqb (rate_or given default fastest) 0 (λ z. omega arith))
 
--- Part 7
+-- Fades
 
 pub moves_up : (counter target : ℕ) (time : Tenths) → 1 ≤ (time).0 → counter < target → next_level counter target time ≡ counter + 1
 unfolding next_level
@@ -266,11 +262,11 @@ unfolding remaining_after
 remaining_ends remaining period = refl
 
 -- the two ways after an answer
-is_in_time : (asked answered period : Micros) → answered.0 - asked.0 ≤ period.0 → wait_or_ask asked answered period ≡ Wait (later asked period)
+is_in_time : (asked answered period : Micros) → answered.0 - asked.0 ≤ period.0 → wait_or_ask asked answered period ≡ Some (later asked period)
 unfolding wait_or_ask
 is_in_time asked answered period h = simp (le-leb (answered.0 - asked.0) period.0 h)
 
-late : (asked answered period : Micros) → period.0 < answered.0 - asked.0 → wait_or_ask asked answered period ≡ Ask
+late : (asked answered period : Micros) → period.0 < answered.0 - asked.0 → wait_or_ask asked answered period ≡ None
 unfolding wait_or_ask
 late asked answered period h = simp (lt-leb (answered.0 - asked.0) period.0 h)
 
@@ -298,7 +294,7 @@ asks asked answered period = (go (leb (answered.0 - asked.0) period.0) refl, λ 
         absurd (none_is_not_one (later asked period).0 (sym h ∙ ap fade.waits (is_in_time asked answered period (leb-true (answered.0 - asked.0) period.0 e))))
     go false e h = leb-false (answered.0 - asked.0) period.0 e
 
--- Part 8
+-- Moves
 
 module _ (rate q : ℕ) (pos : 1 ≤ rate) where
   abbrev period : ℕ
@@ -326,27 +322,27 @@ move_period_rounds : (rate : ℕ) → 1 ≤ rate → (rate * (move_period rate).
 unfolding move_period
 move_period_rounds rate pos = (below_it rate 0 pos, above_it rate 0 pos)
 
--- Part 10
+-- Scenes
 
 module _ (ids values : List ℕ) where
-  abbrev first_pair : (p : Pair) → First decides (pairs ids values) p → scene_level ids values ≡ Known p.value
+  abbrev first_pair : (p : Pair) → First decides (pairs ids values) p → scene_level ids values ≡ Some p.value
   unfolding scene_level
-  first_pair p f = found decides (λ p. Known p.value) Missing (pairs ids values) p f
+  first_pair p f = found decides (λ p. Some p.value) None (pairs ids values) p f
 
-  abbrev no_pair : NoneOf decides (pairs ids values) → scene_level ids values ≡ Missing
+  abbrev no_pair : NoneOf decides (pairs ids values) → scene_level ids values ≡ None
   unfolding scene_level
-  no_pair n = missed decides (λ p. Known p.value) Missing (pairs ids values) n
+  no_pair n = missed decides (λ p. Some p.value) None (pairs ids values) n
 
-  scene_known : (v : ℕ) → (scene_level ids values ≡ Known v) ↔ ((p : Pair) × First decides (pairs ids values) p × (p.value ≡ v))
+  scene_known : (v : ℕ) → (scene_level ids values ≡ Some v) ↔ ((p : Pair) × First decides (pairs ids values) p × (p.value ≡ v))
   scene_known v = (
     λ e. ⊎_elim
         (λ f. (f.0, f.1, known_is f.0.value v (sym (first_pair f.0 f.1) ∙ e)))
         (λ n. absurd (let p = sym (no_pair n) ∙ e in let z : ◌≡◌ {A = ℕ} 0 1 = cc in omega arith))
         (either decides (pairs ids values)),
-    λ h. first_pair h.0 h.1 ∙ ap Known h.2,
+    λ h. first_pair h.0 h.1 ∙ ap Some h.2,
   )
 
-  scene_missing : (scene_level ids values ≡ Missing) ↔ NoneOf decides (pairs ids values)
+  scene_missing : (scene_level ids values ≡ None) ↔ NoneOf decides (pairs ids values)
   scene_missing = (
     λ e. ⊎_elim
         (λ f. absurd (let p = sym (first_pair f.0 f.1) ∙ e in let z : ◌≡◌ {A = ℕ} 0 1 = cc in omega arith))
@@ -418,8 +414,10 @@ rule_laws = record {
   same_level_means = value.same_level_means;
   outside = value.outside;
   rate_0 = value.rate_0;
-  seven_places = list.seven_places;
-  slots_are_actions = list.slots_are_actions;
+  seven_held = λ l. omega (arith, length-take 7 l);
+  held_stays = λ l h. take_all 7 l h;
+  request_given = task.request_given;
+  wait_given = task.wait_given;
   turn_answer = value.turn_answer;
   turn_wake = value.turn_wake;
   turn_start_up = value.turn_start_up;

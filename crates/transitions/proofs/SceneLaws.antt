@@ -1,4 +1,5 @@
 -- Laws of `scene_level` at an index, by which the search walks the pairs. Assumes nothing.
+use Rattle.std.specs.Prelude.{Some, None}
 use Prim.Native.Nat.{ℕ, ◌+◌, ◌-◌, ◌<◌, ◌≤◌}
 use mathlib.Core.Path.{◌≡◌}
 use mathlib.Core.List.{List}
@@ -8,19 +9,18 @@ use borrow.Author.Tests.{eq-eqb, ne_eqb, le-leb, lt-leb}
 use lib.ListN.{length, get_or, take, drop, length-drop, drop_of_length-le}
 use lib.Seq.{drop-cons, take_all}
 use Rattle.transitions.specs.Scene.{scene_level}
-use Rattle.transitions.specs.declared.types.Level.TheVariants.{Known, Missing}
 
 module _ (ids values : List ℕ) (i : ℕ) where
-  pub no_id : length ids ≤ i → scene_level (drop i ids) (drop i values) ≡ Missing
+  pub no_id : length ids ≤ i → scene_level (drop i ids) (drop i values) ≡ None
   unfolding scene_level
   no_id h = rw (drop_of_length-le ids h)
 
-  pub no_value : i < length ids → length values ≤ i → scene_level (drop i ids) (drop i values) ≡ Missing
+  pub no_value : i < length ids → length values ≤ i → scene_level (drop i ids) (drop i values) ≡ None
   unfolding scene_level
   no_value g h = rw (drop-cons ids i 0 g, drop_of_length-le values h)
 
   module _ (g : i < length ids) (h : i < length values) where
-    pub found : get_or ids i 0 ≡ 0 → get_or values i 0 ≤ 255 → scene_level (drop i ids) (drop i values) ≡ Known (get_or values i 0)
+    pub found : get_or ids i 0 ≡ 0 → get_or values i 0 ≤ 255 → scene_level (drop i ids) (drop i values) ≡ Some (get_or values i 0)
     unfolding scene_level
     found e l = rw (drop-cons ids i 0 g, drop-cons values i 0 h, eq-eqb (get_or ids i 0) 0 e, le-leb (get_or values i 0) 255 l)
 

@@ -1,4 +1,5 @@
--- How a fade and a move begin and go on, in document 01's words: proofs for specs/Laws.antt. Assumes nothing.
+-- How a fade and a move begin and go on, in the words of docs/RULES.md: proofs for specs/Laws.antt. Assumes nothing.
+use Rattle.std.specs.Prelude.{Option, Some, None, is_some}
 use Prim.Native.Nat.{ℕ, ◌+◌, ◌-◌, ◌*◌, ◌≤◌, ◌<◌}
 use mathlib.Core.Bool.{Bool, true, false, cond, false≢true}
 use mathlib.Core.Path.{◌≡◌, refl, sym, ap, subst, ◌∙◌}
@@ -13,17 +14,20 @@ use Rattle.units.specs.declared.Tenths.{Tenths}
 use Rattle.units.specs.declared.Millis.{Millis}
 use Rattle.units.specs.declared.Micros.{Micros}
 use Rattle.transitions.specs.Fade.{fade_period, is_transition_start, next_level}
-use Rattle.transitions.specs.Tasks.{after_fade, fade_from, begin_fade, begin_number, begin_requests, level_to_restore, next_move, move_step_number, move_step_requests, is_move_end, at_limit}
+use Rattle.transitions.specs.Tasks.{phase_open, phase_due, open_in, due_in, task_open, task_due, open_request, due_wait, after_fade, fade_from, begin_fade, begin_number, begin_requests, level_to_restore, next_move, move_step_number, move_step_requests, is_move_end, at_limit}
 use Rattle.transitions.specs.Laws.{BeginsAt}
-use Rattle.transitions.specs.declared.types.Level.{Level}
-use Rattle.transitions.specs.declared.types.Level.TheVariants.{Known, Missing}
+use Rattle.transitions.specs.Types.{Level}
 use Rattle.transitions.specs.declared.types.Mode.{Mode}
 use Rattle.transitions.specs.declared.types.Mode.TheVariants.{Up, Down}
-use Rattle.transitions.specs.declared.tasks.AfterFade.{AfterFade}
-use Rattle.transitions.specs.declared.tasks.AfterFade.TheVariants.{Stay, Restore}
 use Rattle.transitions.specs.declared.tasks.Begin.TheVariants.{Reached, Lost, Starts}
 use Rattle.transitions.specs.declared.tasks.Fade.{Fade}
 use Rattle.transitions.specs.declared.tasks.FadeRequest.{FadeRequest}
+use Rattle.transitions.specs.declared.tasks.Phase.{Phase}
+use Rattle.transitions.specs.declared.tasks.Phase.TheVariants.{Asked, Waiting}
+use Rattle.transitions.specs.declared.tasks.Request.{Request}
+use Rattle.transitions.specs.declared.tasks.Task.{Task}
+use Rattle.transitions.specs.declared.tasks.Task.TheVariants as task
+use Rattle.transitions.specs.declared.tasks.Wait.{Wait}
 use Rattle.transitions.specs.declared.tasks.MoveStep.TheVariants as step
 use Rattle.transitions.proofs.Booleans.{or_cases, or_first, or_second}
 use Rattle.transitions.proofs.ValueLaws.{known_is, known_not_missing}
@@ -39,7 +43,35 @@ one_is v w e = cc
 pub one : (v w : ℕ) → v ≡ w → ◌≡◌ {A = List ℕ} (v ∷ []) (w ∷ [])
 one v w e = ap (λ (n : ℕ). n ∷ []) e
 
--- Part 7
+-- Open requests, and waits that are over
+
+request_in : (p : Phase) (request : Micros → Request) → is_some (open_in p request) ≡ phase_open p
+request_in (Asked since) request = refl
+request_in (Waiting until) request = refl
+
+pub request_given : (t : Task) → is_some (open_request t) ≡ task_open t
+request_given task.Rest = refl
+request_given task.StartUp = refl
+request_given (task.Fade f) = request_in f.phase _
+request_given (task.Move m) = request_in m.phase _
+request_given (task.OnReaction o) = refl
+
+some_if : (test : Bool) (w : Wait) → is_some (cond test (Some w) None) ≡ test
+some_if true w = refl
+some_if false w = refl
+
+wait_in : (p : Phase) (now : Micros) (w : Wait) → is_some (due_in p now w) ≡ phase_due p now
+wait_in (Asked since) now w = refl
+wait_in (Waiting until) now w = some_if _ w
+
+pub wait_given : (t : Task) (now : Micros) → is_some (due_wait t now) ≡ task_due t now
+wait_given task.Rest now = refl
+wait_given task.StartUp now = refl
+wait_given (task.Fade f) now = wait_in f.phase now _
+wait_given (task.Move m) now = wait_in m.phase now _
+wait_given (task.OnReaction o) now = refl
+
+-- Fades
 
 pub fade_period_rounds : (time : Tenths) (n : ℕ) → 1 ≤ n
     → (n * (fade_period time n).0 ≤ 100 * time.0) × (100 * time.0 < n * ((fade_period time n).0 + 1))
@@ -61,36 +93,36 @@ module _ (r : FadeRequest) (now : Micros) where
   lost_not_reached : Lost ≡ Reached → ⊥
   lost_not_reached e = let z : ◌≡◌ {A = ℕ} 0 1 = cc in omega arith
 
-  pub begin_11 : (level : Level) → (begin_number (begin_fade level r now) ≡ 11) ↔ (level ≡ Missing)
+  pub begin_11 : (level : Level) → (begin_number (begin_fade level r now) ≡ 11) ↔ (level ≡ None)
   unfolding begin_fade
-  begin_11 (Known c) = go (eqb c r.target)
+  begin_11 (Some c) = go (eqb c r.target)
     where
-      go : (b : Bool) → (begin_number (cond b Reached (Starts (fade_from c r now))) ≡ 11) ↔ (Known c ≡ Missing)
+      go : (b : Bool) → (begin_number (cond b Reached (Starts (fade_from c r now))) ≡ 11) ↔ (Some c ≡ None)
       go true = (λ e. absurd (omega arith), λ e. absurd (known_not_missing c e))
       go false = (λ e. absurd (omega arith), λ e. absurd (known_not_missing c e))
-  begin_11 Missing = (λ e. refl, λ e. refl)
+  begin_11 None = (λ e. refl, λ e. refl)
 
-  pub begin_reached : (level : Level) → (begin_fade level r now ≡ Reached) ↔ (level ≡ Known r.target)
+  pub begin_reached : (level : Level) → (begin_fade level r now ≡ Reached) ↔ (level ≡ Some r.target)
   unfolding begin_fade
-  begin_reached (Known c) = go (eqb c r.target) refl
+  begin_reached (Some c) = go (eqb c r.target) refl
     where
-      go : (b : Bool) → eqb c r.target ≡ b → (cond b Reached (Starts (fade_from c r now)) ≡ Reached) ↔ (Known c ≡ Known r.target)
-      go true e = (λ h. ap Known (eqb-true c r.target e), λ h. refl)
+      go : (b : Bool) → eqb c r.target ≡ b → (cond b Reached (Starts (fade_from c r now)) ≡ Reached) ↔ (Some c ≡ Some r.target)
+      go true e = (λ h. ap Some (eqb-true c r.target e), λ h. refl)
       go false e = (
         λ h. absurd (reached_not_started (fade_from c r now) (sym h)),
         λ h. absurd (eqb-false c r.target e (known_is c r.target h)),
       )
-  begin_reached Missing = (λ e. absurd (lost_not_reached e), λ e. absurd (known_not_missing r.target (sym e)))
+  begin_reached None = (λ e. absurd (lost_not_reached e), λ e. absurd (known_not_missing r.target (sym e)))
 
   pub begin_asks : (level : Level) (asked : ℕ)
       → (begin_requests (begin_fade level r now) ≡ asked ∷ [])
-      ↔ ((c : ℕ) × (level ≡ Known c) × (c ≡ r.target → ⊥) × (asked ≡ next_level c r.target r.transition_time))
+      ↔ ((c : ℕ) × (level ≡ Some c) × (c ≡ r.target → ⊥) × (asked ≡ next_level c r.target r.transition_time))
   unfolding begin_fade fade_from
-  begin_asks (Known c) asked = go (eqb c r.target) refl
+  begin_asks (Some c) asked = go (eqb c r.target) refl
     where
       go : (b : Bool) → eqb c r.target ≡ b
           → (begin_requests (cond b Reached (Starts (fade_from c r now))) ≡ asked ∷ [])
-          ↔ ((k : ℕ) × (Known c ≡ Known k) × (k ≡ r.target → ⊥) × (asked ≡ next_level k r.target r.transition_time))
+          ↔ ((k : ℕ) × (Some c ≡ Some k) × (k ≡ r.target → ⊥) × (asked ≡ next_level k r.target r.transition_time))
       go true e = (
         λ h. absurd (none_is_not_one asked h),
         λ h. absurd (h.2 (sym (known_is c h.0 h.1) ∙ eqb-true c r.target e)),
@@ -100,10 +132,10 @@ module _ (r : FadeRequest) (now : Micros) where
         λ h. one (next_level c r.target r.transition_time) asked
             (ap (λ (k : ℕ). next_level k r.target r.transition_time) (known_is c h.0 h.1) ∙ sym h.3),
       )
-  begin_asks Missing asked = (λ h. absurd (none_is_not_one asked h), λ h. absurd (known_not_missing h.0 (sym h.1)))
+  begin_asks None asked = (λ h. absurd (none_is_not_one asked h), λ h. absurd (known_not_missing h.0 (sym h.1)))
 
-  puts_back : (b : Bool) (c before : ℕ) → (after_fade b c ≡ Restore before) ↔ ((b ≡ true) × (before ≡ c))
-  puts_back true c before = (λ e. (refl, cc), λ h. ap Restore (sym h.1))
+  puts_back : (b : Bool) (c before : ℕ) → (after_fade b c ≡ Some before) ↔ ((b ≡ true) × (before ≡ c))
+  puts_back true c before = (λ e. (refl, cc), λ h. ap Some (sym h.1))
   puts_back false c before = (λ e. absurd (let z : ◌≡◌ {A = ℕ} 0 1 = cc in omega arith), λ h. absurd (false≢true h.0))
 
   begins : (c : ℕ) → (c ≡ r.target → ⊥) → BeginsAt c r now (fade_from c r now)
@@ -119,7 +151,7 @@ module _ (r : FadeRequest) (now : Micros) where
     asked_now = refl;
   }
 
-  pub begin_fade_begins : (c : ℕ) (f : Fade) → begin_fade (Known c) r now ≡ Starts f → BeginsAt c r now f
+  pub begin_fade_begins : (c : ℕ) (f : Fade) → begin_fade (Some c) r now ≡ Starts f → BeginsAt c r now f
   unfolding begin_fade
   begin_fade_begins c f = go (eqb c r.target) refl
     where
@@ -127,26 +159,26 @@ module _ (r : FadeRequest) (now : Micros) where
       go true e h = absurd (reached_not_started f h)
       go false e h = let same : fade_from c r now ≡ f = cc in subst (BeginsAt c r now) same (begins c (eqb-false c r.target e))
 
--- Part 8
+-- Moves
 
-pub move_11 : (level : Level) (mode : Mode) → (move_step_number (next_move level mode) ≡ 11) ↔ (level ≡ Missing)
+pub move_11 : (level : Level) (mode : Mode) → (move_step_number (next_move level mode) ≡ 11) ↔ (level ≡ None)
 unfolding next_move
-move_11 (Known c) Up = go (ltb c 255)
+move_11 (Some c) Up = go (ltb c 255)
   where
-    go : (b : Bool) → (move_step_number (cond b (step.Asks (c + 1)) step.Ends) ≡ 11) ↔ (Known c ≡ Missing)
+    go : (b : Bool) → (move_step_number (cond b (step.Asks (c + 1)) step.Ends) ≡ 11) ↔ (Some c ≡ None)
     go true = (λ e. absurd (omega arith), λ e. absurd (known_not_missing c e))
     go false = (λ e. absurd (omega arith), λ e. absurd (known_not_missing c e))
-move_11 (Known c) Down = go (ltb 0 c)
+move_11 (Some c) Down = go (ltb 0 c)
   where
-    go : (b : Bool) → (move_step_number (cond b (step.Asks (c - 1)) step.Ends) ≡ 11) ↔ (Known c ≡ Missing)
+    go : (b : Bool) → (move_step_number (cond b (step.Asks (c - 1)) step.Ends) ≡ 11) ↔ (Some c ≡ None)
     go true = (λ e. absurd (omega arith), λ e. absurd (known_not_missing c e))
     go false = (λ e. absurd (omega arith), λ e. absurd (known_not_missing c e))
-move_11 Missing mode = (λ e. refl, λ e. refl)
+move_11 None mode = (λ e. refl, λ e. refl)
 
 asks_not_ends : (l : ℕ) → step.Asks l ≡ step.Ends → ⊥
 asks_not_ends l e = let z : ◌≡◌ {A = ℕ} 0 1 = cc in omega arith
 
-pub move_up : (c asked : ℕ) → (move_step_requests (next_move (Known c) Up) ≡ asked ∷ []) ↔ ((asked ≡ c + 1) × (asked ≤ 255))
+pub move_up : (c asked : ℕ) → (move_step_requests (next_move (Some c) Up) ≡ asked ∷ []) ↔ ((asked ≡ c + 1) × (asked ≤ 255))
 unfolding next_move
 move_up c asked = go (ltb c 255) refl
   where
@@ -157,7 +189,7 @@ move_up c asked = go (ltb c 255) refl
     )
     go false e = (λ h. absurd (none_is_not_one asked h), λ h. absurd (omega (arith, ltb-false c 255 e, h.0, h.1)))
 
-pub move_down : (c asked : ℕ) → (move_step_requests (next_move (Known c) Down) ≡ asked ∷ []) ↔ (asked + 1 ≡ c)
+pub move_down : (c asked : ℕ) → (move_step_requests (next_move (Some c) Down) ≡ asked ∷ []) ↔ (asked + 1 ≡ c)
 unfolding next_move
 move_down c asked = go (ltb 0 c) refl
   where
@@ -168,7 +200,7 @@ move_down c asked = go (ltb 0 c) refl
     )
     go false e = (λ h. absurd (none_is_not_one asked h), λ h. absurd (omega (arith, ltb-false 0 c e)))
 
-pub move_passes : (c : ℕ) → ((next_move (Known c) Up ≡ step.Ends) ↔ (255 < c + 1)) × ((next_move (Known c) Down ≡ step.Ends) ↔ (c < 1))
+pub move_passes : (c : ℕ) → ((next_move (Some c) Up ≡ step.Ends) ↔ (255 < c + 1)) × ((next_move (Some c) Down ≡ step.Ends) ↔ (c < 1))
 unfolding next_move
 move_passes c = (up (ltb c 255) refl, down (ltb 0 c) refl)
   where
@@ -190,36 +222,36 @@ up_not_down : Up ≡ Down → ⊥
 up_not_down e = let z : ◌≡◌ {A = ℕ} 0 1 = cc in omega arith
 
 pub at_limit_means : (level : Level) (mode : Mode) (lo hi : ℕ)
-    → (at_limit level mode lo hi ≡ true) ↔ (((mode ≡ Down) × (level ≡ Known lo)) ⊎ ((mode ≡ Up) × (level ≡ Known hi)))
+    → (at_limit level mode lo hi ≡ true) ↔ (((mode ≡ Down) × (level ≡ Some lo)) ⊎ ((mode ≡ Up) × (level ≡ Some hi)))
 unfolding at_limit
-at_limit_means (Known c) Up lo hi = (
-  λ e. inr (refl, ap Known (eqb-true c hi e)),
+at_limit_means (Some c) Up lo hi = (
+  λ e. inr (refl, ap Some (eqb-true c hi e)),
   ⊎_elim (λ h. absurd (up_not_down h.0)) (λ h. eq-eqb c hi (known_is c hi h.1)),
 )
-at_limit_means (Known c) Down lo hi = (
-  λ e. inl (refl, ap Known (eqb-true c lo e)),
+at_limit_means (Some c) Down lo hi = (
+  λ e. inl (refl, ap Some (eqb-true c lo e)),
   ⊎_elim (λ h. eq-eqb c lo (known_is c lo h.1)) (λ h. absurd (up_not_down (sym h.0))),
 )
-at_limit_means Missing Up lo hi = (
+at_limit_means None Up lo hi = (
   λ e. absurd (false≢true e),
   ⊎_elim (λ h. absurd (up_not_down h.0)) (λ h. absurd (known_not_missing hi (sym h.1))),
 )
-at_limit_means Missing Down lo hi = (
+at_limit_means None Down lo hi = (
   λ e. absurd (false≢true e),
   ⊎_elim (λ h. absurd (known_not_missing lo (sym h.1))) (λ h. absurd (up_not_down (sym h.0))),
 )
 
--- Part 9
+-- Reactions
 
-pub stored_back_means : (after : AfterFade) (onLevel : Level) (before : ℕ)
-    → (level_to_restore after onLevel ≡ Known before) ↔ ((after ≡ Restore before) × (onLevel ≡ Missing))
+pub stored_back_means : (after : Option ℕ) (on_level : Level) (before : ℕ)
+    → (level_to_restore after on_level ≡ Some before) ↔ ((after ≡ Some before) × (on_level ≡ None))
 unfolding level_to_restore
-stored_back_means Stay onLevel before = (
+stored_back_means None on_level before = (
   λ e. absurd (known_not_missing before (sym e)),
   λ h. absurd (let e = h.0 in let z : ◌≡◌ {A = ℕ} 0 1 = cc in omega arith),
 )
-stored_back_means (Restore b) (Known c) before = (λ e. absurd (known_not_missing before (sym e)), λ h. absurd (known_not_missing c h.1))
-stored_back_means (Restore b) Missing before = (
-  λ e. (ap Restore (known_is b before e), refl),
-  λ h. ap Known (let e = h.0 in let same : b ≡ before = cc in same),
+stored_back_means (Some b) (Some c) before = (λ e. absurd (known_not_missing before (sym e)), λ h. absurd (known_not_missing c h.1))
+stored_back_means (Some b) None before = (
+  λ e. (ap Some (known_is b before e), refl),
+  λ h. ap Some (let e = h.0 in let same : b ≡ before = cc in same),
 )

@@ -1,4 +1,5 @@
--- Levels, rates, targets and turns in document 01's words: proofs for specs/Laws.antt. Assumes nothing.
+-- Levels, rates, targets and turns in the words of docs/RULES.md: proofs for specs/Laws.antt. Assumes nothing.
+use Rattle.std.specs.Prelude.{Some, None}
 use Prim.Native.Nat.{ℕ, ◌+◌, ◌≤◌, ◌<◌}
 use mathlib.Core.Bool.{true, false≢true}
 use mathlib.Core.Path.{◌≡◌, refl, sym, ap, ◌∙◌}
@@ -9,32 +10,30 @@ use borrow.Author.Tests.{lt-ltb, ltb-true, eqb-true, eq-eqb}
 use lib.Dec.{ltb}
 use Rattle.transitions.specs.Types.{same_level, is_outside, is_zero_rate}
 use Rattle.transitions.specs.Commands.{step_level}
-use Rattle.transitions.specs.Events.{turn_of, turn_causes}
-use Rattle.transitions.specs.declared.types.Level.{Level}
-use Rattle.transitions.specs.declared.types.Level.TheVariants.{Known, Missing}
+use Rattle.transitions.specs.Events.{turn_causes}
+use Rattle.transitions.specs.Types.{Level}
 use Rattle.transitions.specs.declared.types.Mode.TheVariants.{Up, Down}
-use Rattle.transitions.specs.declared.types.Rate.{Rate}
-use Rattle.transitions.specs.declared.types.Rate.TheVariants as rate
+use Rattle.transitions.specs.Types.{Rate}
 use Rattle.transitions.specs.declared.events.DeviceAnswer.{DeviceAnswer}
 use Rattle.transitions.specs.declared.events.EventKind.{EventKind}
 use Rattle.transitions.specs.declared.events.EventKind.TheVariants as kind
 use Rattle.transitions.proofs.Booleans.{or_cases, or_first, or_second}
 
-pub known_is : (a b : ℕ) → Known a ≡ Known b → a ≡ b
+pub known_is : (a b : ℕ) → Some a ≡ Some b → a ≡ b
 known_is a b e = cc
 
-pub known_not_missing : (c : ℕ) → Known c ≡ Missing → ⊥
+pub known_not_missing : (c : ℕ) → Some c ≡ None → ⊥
 known_not_missing c e = let z : ◌≡◌ {A = ℕ} 0 1 = cc in omega arith
 
 pub same_level_means : (a b : Level) → (same_level a b ≡ true) ↔ (a ≡ b)
 unfolding same_level
-same_level_means (Known a) (Known b) = (λ e. ap Known (eqb-true a b e), λ h. eq-eqb a b (known_is a b h))
-same_level_means (Known a) Missing = (λ e. absurd (false≢true e), λ h. absurd (known_not_missing a h))
-same_level_means Missing (Known b) = (λ e. absurd (false≢true e), λ h. absurd (known_not_missing b (sym h)))
-same_level_means Missing Missing = (λ e. refl, λ h. refl)
+same_level_means (Some a) (Some b) = (λ e. ap Some (eqb-true a b e), λ h. eq-eqb a b (known_is a b h))
+same_level_means (Some a) None = (λ e. absurd (false≢true e), λ h. absurd (known_not_missing a h))
+same_level_means None (Some b) = (λ e. absurd (false≢true e), λ h. absurd (known_not_missing b (sym h)))
+same_level_means None None = (λ e. refl, λ h. refl)
 
-pub outside : (level : Level) (lo hi : ℕ) → (is_outside level lo hi ≡ true) ↔ ((c : ℕ) × (level ≡ Known c) × ((c < lo) ⊎ (hi < c)))
-outside (Known c) lo hi = (
+pub outside : (level : Level) (lo hi : ℕ) → (is_outside level lo hi ≡ true) ↔ ((c : ℕ) × (level ≡ Some c) × ((c < lo) ⊎ (hi < c)))
+outside (Some c) lo hi = (
   λ e. (c, refl, ⊎_elim (λ f. inl (ltb-true c lo f)) (λ f. inr (ltb-true hi c f)) (or_cases (ltb c lo) (ltb hi c) e)),
   λ h.
       let same : c ≡ h.0 = known_is c h.0 h.1 in
@@ -43,13 +42,13 @@ outside (Known c) lo hi = (
       (λ g. or_second (ltb c lo) (ltb hi c) (lt-ltb hi c (omega (arith, same))))
       h.2,
 )
-outside Missing lo hi = (λ e. absurd (false≢true e), λ h. absurd (known_not_missing h.0 (sym h.1)))
+outside None lo hi = (λ e. absurd (false≢true e), λ h. absurd (known_not_missing h.0 (sym h.1)))
 
-pub rate_0 : (r : Rate) → (is_zero_rate r ≡ true) ↔ (r ≡ rate.Known 0)
-rate_0 (rate.Known r) = (λ e. ap rate.Known (eqb-true r 0 e), λ h. eq-eqb r 0 cc)
-rate_0 rate.Missing = (λ e. absurd (false≢true e), λ h. absurd (let z : ◌≡◌ {A = ℕ} 0 1 = cc in omega arith))
+pub rate_0 : (r : Rate) → (is_zero_rate r ≡ true) ↔ (r ≡ Some 0)
+rate_0 (Some r) = (λ e. ap Some (eqb-true r 0 e), λ h. eq-eqb r 0 cc)
+rate_0 None = (λ e. absurd (false≢true e), λ h. absurd (let z : ◌≡◌ {A = ℕ} 0 1 = cc in omega arith))
 
--- Part 6
+-- Steps
 
 pub step_up : (level size lo hi : ℕ) → hi ≤ 255
     → (level + size ≤ hi → step_level Up level size lo hi ≡ level + size) × (hi ≤ level + size → step_level Up level size lo hi ≡ hi)
@@ -66,24 +65,13 @@ step_down level size lo hi = (λ g. omega arith, λ g. omega arith)
 -- the four turns of an event
 abbrev TurnIs : EventKind → Type 0
 TurnIs k =
-    (k ≡ kind.StartUp) ⊎ ((a : DeviceAnswer) × (k ≡ kind.Answer a)) ⊎ (k ≡ kind.Wake) ⊎ (turn_causes (turn_of k) ≡ 6 ∷ [])
+    (k ≡ kind.StartUp) ⊎ ((a : DeviceAnswer) × (k ≡ kind.Answer a)) ⊎ (k ≡ kind.Wake) ⊎ (turn_causes k ≡ 6 ∷ [])
 
 turn_is : (k : EventKind) → TurnIs k
 turn_is kind.StartUp = inl refl
-turn_is (kind.MoveToLevel r) = inr (inr (inr refl))
-turn_is (kind.Move r) = inr (inr (inr refl))
-turn_is (kind.Step r) = inr (inr (inr refl))
-turn_is (kind.Stop r) = inr (inr (inr refl))
 turn_is (kind.Answer a) = inr (inl (a, refl))
 turn_is kind.Wake = inr (inr (inl refl))
-turn_is (kind.OnOffChanged on) = inr (inr (inr refl))
-turn_is (kind.Scene r) = inr (inr (inr refl))
-turn_is (kind.DeviceUpdate l) = inr (inr (inr refl))
-turn_is kind.DeviceStop = inr (inr (inr refl))
-turn_is (kind.SetOnLevel l) = inr (inr (inr refl))
-turn_is (kind.SetDefaultMoveRate r) = inr (inr (inr refl))
-turn_is (kind.SetStartUpCurrentLevel l) = inr (inr (inr refl))
-turn_is kind.FactoryReset = inr (inr (inr refl))
+turn_is (kind.Command c) = inr (inr (inr refl))
 
 abbrev total : List ℕ → ℕ
 total [] = 0
@@ -91,7 +79,7 @@ total (n ∷ l) = n + total l
 
 module _ (k : EventKind) where
   abbrev causes : EventKind → List ℕ
-  causes j = turn_causes (turn_of j)
+  causes j = turn_causes j
 
   -- other causes are of another event
   another : {A : Type 0} (l r : List ℕ) → causes k ≡ l → causes k ≡ r → (total l ≡ total r → ⊥) → A

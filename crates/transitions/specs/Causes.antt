@@ -1,9 +1,38 @@
--- "Causes and numbers" of document 01: the table, and the first of its rows that applies.
+-- Causes: the table, and the first of its rows that applies.
 use Rattle.std.specs.Prelude.{ℕ, Bool, false, List, [], ◌∷◌}
 use Rattle.transitions.specs.Search.{first_where}
-use Rattle.transitions.specs.declared.causes.CommandTests.{CommandTests}
-use Rattle.transitions.specs.declared.causes.Tests.{Tests}
-use Rattle.transitions.specs.declared.causes.TurnTests.{TurnTests}
+use Rattle.transitions.specs.declared.causes.Refusal.{Refusal}
+use Rattle.transitions.specs.declared.causes.Refusal.TheVariants.{TimeRefused, AnswerOpen, NoAnswerOpen, WakeRefused, StartUpLate, InvalidCommand, InvalidInState, ProductTooLarge, LevelOutside, RateZero}
+
+-- what the tests of a call say: of its settings, of a record, of the output
+pub record CallTests : Type 0 where
+  pub record_wrong : Bool
+  pub max_above_254 : Bool
+  pub min_above_max : Bool
+  pub lighting_min_0 : Bool
+  pub output_short : Bool
+
+-- what the tests say that ask whether an event's turn has come
+pub record TurnTests : Type 0 where
+  pub time_refused : Bool
+  pub answer_open : Bool
+  pub no_answer_open : Bool
+  pub wake_refused : Bool
+  pub start_up_late : Bool
+
+-- what the tests of a command's own values say. The options stop a command without refusing it
+pub record CommandTests : Type 0 where
+  pub invalid_command : Bool
+  pub stopped_by_options : Bool
+  pub invalid_in_state : Bool
+  pub product_too_large : Bool
+  pub level_outside : Bool
+  pub rate_0 : Bool
+
+pub record Tests : Type 0 where
+  pub call : CallTests
+  pub turn : TurnTests
+  pub command : CommandTests
 
 -- a row: its number, and what its test says
 pub record Row : Type 0 where
@@ -13,7 +42,7 @@ pub record Row : Type 0 where
 abbrev pub row : ℕ → Bool → Row
 row n b = record { number = n; applies = b }
 
--- "They are tested in this order; options stand between 10 and 11. An event the options stop is accepted with number 0"
+-- they are tested in this order; the options stand between 10 and 11, and an event that they stop has number 0
 abbrev pub rows : Tests → List Row
 rows t =
     row 1 t.call.record_wrong
@@ -62,3 +91,16 @@ no_command_tests = command_tests false false false false false false
 
 abbrev pub no_turn_tests : TurnTests
 no_turn_tests = record { time_refused = false; answer_open = false; no_answer_open = false; wake_refused = false; start_up_late = false }
+
+-- the number of a refusal
+abbrev pub refusal_number : Refusal → ℕ
+refusal_number TimeRefused = 5
+refusal_number AnswerOpen = 6
+refusal_number NoAnswerOpen = 7
+refusal_number WakeRefused = 8
+refusal_number StartUpLate = 9
+refusal_number InvalidCommand = 10
+refusal_number InvalidInState = 11
+refusal_number ProductTooLarge = 12
+refusal_number LevelOutside = 13
+refusal_number RateZero = 14

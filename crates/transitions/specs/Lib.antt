@@ -11,6 +11,6 @@ pub mod Scene
 pub mod Causes
 pub mod Tasks
 pub mod Events
-pub mod ActionList
+pub mod Actions
 pub mod Laws
 pub mod Matter

@@ -1,18 +1,14 @@
--- "How events run" of document 01, and how a fade (part 7) and a move (part 8) begin and go on.
-use Rattle.std.specs.Prelude.{ℕ, ◌+◌, ◌-◌, Bool, true, false, cond, ◌||◌, List, [], ◌∷◌, ltb, eqb}
+-- Events and answers: the request that is open, and the wait. Fades and Moves: how they begin and go on.
+use Rattle.std.specs.Prelude.{ℕ, ◌+◌, ◌-◌, Bool, true, false, cond, ◌||◌, List, [], ◌∷◌, ltb, eqb, Option, Some, None}
 use Rattle.units.specs.Numbers.{apart}
 use Rattle.units.specs.Units.{tenths_to_millis, millis_to_micros, at_most}
 use Rattle.units.specs.declared.Millis.{Millis}
 use Rattle.units.specs.declared.Micros.{Micros}
 use Rattle.transitions.specs.Types.{is_level}
 use Rattle.transitions.specs.Fade.{fade_period, is_transition_start, remaining_after, next_level, wait_or_ask}
-use Rattle.transitions.specs.declared.types.Level.{Level}
-use Rattle.transitions.specs.declared.types.Level.TheVariants.{Known, Missing}
+use Rattle.transitions.specs.Types.{Level}
 use Rattle.transitions.specs.declared.types.Mode.{Mode}
 use Rattle.transitions.specs.declared.types.Mode.TheVariants.{Up, Down}
-use Rattle.transitions.specs.declared.fade.Next.{Next}
-use Rattle.transitions.specs.declared.tasks.AfterFade.{AfterFade}
-use Rattle.transitions.specs.declared.tasks.AfterFade.TheVariants.{Stay, Restore}
 use Rattle.transitions.specs.declared.tasks.Begin.{Begin}
 use Rattle.transitions.specs.declared.tasks.Begin.TheVariants as begin
 use Rattle.transitions.specs.declared.tasks.Fade.{Fade}
@@ -24,9 +20,13 @@ use Rattle.transitions.specs.declared.tasks.MoveStep.TheVariants as step
 use Rattle.transitions.specs.declared.tasks.Phase.{Phase}
 use Rattle.transitions.specs.declared.tasks.Phase.TheVariants.{Asked, Waiting}
 use Rattle.transitions.specs.declared.tasks.Task.{Task}
+use Rattle.transitions.specs.declared.tasks.Request.{Request}
+use Rattle.transitions.specs.declared.tasks.Request.TheVariants as request
+use Rattle.transitions.specs.declared.tasks.Wait.{Wait}
+use Rattle.transitions.specs.declared.tasks.Wait.TheVariants as wait
 use Rattle.transitions.specs.declared.tasks.Task.TheVariants as task
 
--- "one device request may be open"
+-- a request to the device is open
 
 abbrev pub phase_open : Phase → Bool
 phase_open (Asked since) = true
@@ -39,7 +39,19 @@ task_open (task.Fade f) = phase_open f.phase
 task_open (task.Move m) = phase_open m.phase
 task_open (task.OnReaction o) = true
 
--- a wake that is waited for, and is not early
+abbrev pub open_in : Phase → (Micros → Request) → Option Request
+open_in (Asked since) request = Some (request since)
+open_in (Waiting until) request = None
+
+-- that request: of a fade and a move with the time since when it is open
+abbrev pub open_request : Task → Option Request
+open_request task.Rest = None
+open_request task.StartUp = Some request.StartUp
+open_request (task.Fade f) = open_in f.phase (request.Fade f)
+open_request (task.Move m) = open_in m.phase (request.Move m)
+open_request (task.OnReaction o) = Some (request.OnReaction o)
+
+-- a wait is over: a wake at its time or later is accepted
 
 abbrev pub phase_due : Phase → Micros → Bool
 phase_due (Asked since) now = false
@@ -52,6 +64,18 @@ task_due (task.Fade f) now = phase_due f.phase now
 task_due (task.Move m) now = phase_due m.phase now
 task_due (task.OnReaction o) now = false
 
+abbrev pub due_in : Phase → Micros → Wait → Option Wait
+due_in (Asked since) now wait = None
+due_in (Waiting until) now wait = cond (at_most until now) (Some wait) None
+
+-- that wait
+abbrev pub due_wait : Task → Micros → Option Wait
+due_wait task.Rest now = None
+due_wait task.StartUp now = None
+due_wait (task.Fade f) now = due_in f.phase now (wait.Fade f)
+due_wait (task.Move m) now = due_in m.phase now (wait.Move m.course)
+due_wait (task.OnReaction o) now = None
+
 -- Fades.
 
 -- the request that is open is the last
@@ -61,51 +85,31 @@ fade_last f = eqb f.counter f.target
 abbrev pub fade_start : Fade → Bool
 fade_start f = is_transition_start f.remaining f.transition_time
 
--- the remaining time after the answer to it
+-- the unrounded remaining time after the answer to it
 abbrev pub fade_left : Fade → Millis
 fade_left f = remaining_after f.remaining f.period (fade_last f)
 
-abbrev pub fade_next : Fade → Micros → Micros → Next
+abbrev pub fade_next : Fade → Micros → Micros → Option Micros
 fade_next f asked answered = wait_or_ask asked answered (millis_to_micros f.period)
 
 -- the next request is open: the counter has moved
 unfoldable pub fade_asking : Fade → Millis → Micros → Fade
-fade_asking f remaining now = record {
-  with_on_off = f.with_on_off;
-  scene_apply = f.scene_apply;
-  target = f.target;
-  counter = next_level f.counter f.target f.transition_time;
-  transition_time = f.transition_time;
-  remaining = remaining;
-  period = f.period;
-  after = f.after;
-  phase = Asked now;
-}
+fade_asking f remaining now = record f { counter = next_level f.counter f.target f.transition_time; remaining = remaining; phase = Asked now }
 
 unfoldable pub fade_waiting : Fade → Millis → Micros → Fade
-fade_waiting f remaining until = record {
-  with_on_off = f.with_on_off;
-  scene_apply = f.scene_apply;
-  target = f.target;
-  counter = f.counter;
-  transition_time = f.transition_time;
-  remaining = remaining;
-  period = f.period;
-  after = f.after;
-  phase = Waiting until;
-}
+fade_waiting f remaining until = record f { remaining = remaining; phase = Waiting until }
 
--- "afterwards the level before is stored back"
-abbrev pub after_fade : Bool → ℕ → AfterFade
-after_fade restores level = cond restores (Restore level) Stay
+-- the level that the end of an off fade may put back
+abbrev pub after_fade : Bool → ℕ → Option ℕ
+after_fade restores level = cond restores (Some level) None
 
--- "afterwards, if `on_level` is missing, the level before is stored back"
-unfoldable pub level_to_restore : AfterFade → Level → Level
-level_to_restore Stay onLevel = Missing
-level_to_restore (Restore before) (Known level) = Missing
-level_to_restore (Restore before) Missing = Known before
+-- Reactions: it is put back if the on level is missing when the fade has ended
+unfoldable pub level_to_restore : Option ℕ → Level → Level
+level_to_restore None on_level = None
+level_to_restore (Some before) (Some level) = None
+level_to_restore (Some before) None = Some before
 
--- a fade from a level: "n = |t − c|", its remaining time 100·T, its first request open
+-- from a level c: n = |t − c|, 100·T milliseconds remain, and the first request is open
 unfoldable pub fade_from : ℕ → FadeRequest → Micros → Fade
 fade_from level r now = record {
   with_on_off = r.with_on_off;
@@ -119,12 +123,12 @@ fade_from level r now = record {
   phase = Asked now;
 }
 
--- "a target equal to the current level" is reached; "from a missing level" there is nothing to fade from
+-- Targets: one equal to the current level is reached; from a missing level there is nothing to fade from
 unfoldable pub begin_fade : Level → FadeRequest → Micros → Begin
-begin_fade (Known from) r now = cond (eqb from r.target) begin.Reached (begin.Starts (fade_from from r now))
-begin_fade Missing r now = begin.Lost
+begin_fade (Some from) r now = cond (eqb from r.target) begin.Reached (begin.Starts (fade_from from r now))
+begin_fade None r now = begin.Lost
 
--- in E: "11 for a fade or move from a missing level"
+-- E11: from a missing level
 abbrev pub begin_number : Begin → ℕ
 begin_number begin.Reached = 0
 begin_number begin.Lost = 11
@@ -144,13 +148,13 @@ move_asking course asked now = record { course = course; asked = asked; phase = 
 abbrev pub move_waiting : Move → Micros → Move
 move_waiting m until = record { course = m.course; asked = m.asked; phase = Waiting until }
 
--- "steps from the stored level"; it ends where it "would pass 0 or 255"
+-- from the stored level by one; it ends where it would pass 0 or 255
 unfoldable pub next_move : Level → Mode → MoveStep
-next_move (Known from) Up = cond (ltb from 255) (step.Asks (from + 1)) step.Ends
-next_move (Known from) Down = cond (ltb 0 from) (step.Asks (from - 1)) step.Ends
-next_move Missing mode = step.Lost
+next_move (Some from) Up = cond (ltb from 255) (step.Asks (from + 1)) step.Ends
+next_move (Some from) Down = cond (ltb 0 from) (step.Asks (from - 1)) step.Ends
+next_move None mode = step.Lost
 
--- in E, as above
+-- E11, as above
 abbrev pub move_step_number : MoveStep → ℕ
 move_step_number step.Lost = 11
 move_step_number step.Ends = 0
@@ -162,11 +166,11 @@ move_step_requests step.Lost = []
 move_step_requests step.Ends = []
 move_step_requests (step.Asks level) = level ∷ []
 
--- "ends when the asked level is MIN or MAX"
+-- the answer to a request for MIN or for MAX is the end, in either direction
 abbrev pub is_move_end : ℕ → ℕ → ℕ → Bool
 is_move_end asked lo hi = eqb asked hi || eqb asked lo
 
--- "at MIN going down or MAX going up nothing happens"
+-- at MIN going down or at MAX going up nothing happens
 unfoldable pub at_limit : Level → Mode → ℕ → ℕ → Bool
 at_limit level Up lo hi = is_level level hi
 at_limit level Down lo hi = is_level level lo

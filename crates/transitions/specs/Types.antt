@@ -1,49 +1,55 @@
--- Observers of the values that the rules speak of.
-use Rattle.std.specs.Prelude.{ℕ, ◌%◌, Bool, true, false, ◌||◌, eqb, ltb}
+-- Words: a level, a time and a rate, and what is asked of them. A missing one is None.
+use Rattle.std.specs.Prelude.{ℕ, ◌%◌, Bool, false, ◌&&◌, ◌||◌, eqb, leb, ltb, Option, Some, None, is_none}
 use Rattle.units.specs.declared.Tenths.{Tenths}
-use Rattle.transitions.specs.declared.types.Level.{Level}
-use Rattle.transitions.specs.declared.types.Level.TheVariants.{Known, Missing}
-use Rattle.transitions.specs.declared.types.Time.{Time}
-use Rattle.transitions.specs.declared.types.Time.TheVariants as time
-use Rattle.transitions.specs.declared.types.Rate.{Rate}
-use Rattle.transitions.specs.declared.types.Rate.TheVariants as rate
+use Rattle.transitions.specs.declared.types.LevelRange.{LevelRange}
 use Rattle.transitions.specs.declared.types.OptionsBitmap.{OptionsBitmap}
 
+abbrev pub Level : Type 0
+Level = Option ℕ
+
+abbrev pub Time : Type 0
+Time = Option Tenths
+
+abbrev pub Rate : Type 0
+Rate = Option ℕ
+
 abbrev pub is_missing : Level → Bool
-is_missing (Known l) = false
-is_missing Missing = true
+is_missing l = is_none l
 
 -- whether a level is known and is that one
 abbrev pub is_level : Level → ℕ → Bool
-is_level (Known l) other = eqb l other
-is_level Missing other = false
+is_level (Some l) other = eqb l other
+is_level None other = false
 
 unfoldable pub same_level : Level → Level → Bool
-same_level l (Known other) = is_level l other
-same_level l Missing = is_missing l
+same_level l (Some other) = is_level l other
+same_level l None = is_missing l
 
 unfoldable pub level_or : Level → Level → Level
-level_or (Known l) other = Known l
-level_or Missing other = other
+level_or (Some l) other = Some l
+level_or None other = other
+
+abbrev pub is_within : LevelRange → ℕ → Bool
+is_within range level = leb range.min level && leb level range.max
 
 -- a known level outside a range
 abbrev pub is_outside : Level → ℕ → ℕ → Bool
-is_outside (Known l) lo hi = ltb l lo || ltb hi l
-is_outside Missing lo hi = false
+is_outside (Some l) lo hi = ltb l lo || ltb hi l
+is_outside None lo hi = false
 
 unfoldable pub time_or : Time → Tenths → Tenths
-time_or (time.Known t) other = t
-time_or time.Missing other = other
+time_or (Some t) other = t
+time_or None other = other
 
 abbrev pub is_zero_rate : Rate → Bool
-is_zero_rate (rate.Known r) = eqb r 0
-is_zero_rate rate.Missing = false
+is_zero_rate (Some r) = eqb r 0
+is_zero_rate None = false
 
 -- the first rate, else the second, else the number
 abbrev pub rate_or : Rate → Rate → ℕ → ℕ
-rate_or (rate.Known r) other last = r
-rate_or rate.Missing (rate.Known r) last = r
-rate_or rate.Missing rate.Missing last = last
+rate_or (Some r) other last = r
+rate_or None (Some r) last = r
+rate_or None None last = last
 
 -- bit 0, EXECUTE_IF_OFF
 abbrev pub executes_if_off : OptionsBitmap → Bool

@@ -1,14 +1,9 @@
-// Part 5: what is sent to the coupled On/Off cluster (the source's update_coupled_on_off).
-// Derived from level_control.rs of project-chip/rs-matter 43f61585a4 (see NOTICE), and changed.
+//! What is sent to the coupled On/Off cluster (the source's update_coupled_on_off).
+//! Derived from level_control.rs of project-chip/rs-matter 43f61585a4 (see NOTICE), and changed.
 ghost use Rattle.std.specs.Prelude.{◌≡◌};
 ghost use Rattle.transitions.specs.Coupling.{coupled_on_off};
 
-#[derive(Clone, Copy)]
-pub enum Coupling {
-    Sent(bool),
-    NotSent,
-}
-
+/// The on/off value that is sent, if one is.
 #[tactic(auto, unfolding(crate::specs::Coupling::coupled_on_off))]
 pub fn coupled_on_off(
     with_on_off: bool,
@@ -16,12 +11,9 @@ pub fn coupled_on_off(
     on_off: bool,
     min_level: u8,
     level: u8,
-) -> Coupling
+) -> Option<bool>
     ensures { result ≡ coupled_on_off with_on_off coupled on_off min_level level }
 {
     let wanted = min_level < level;
-    if with_on_off & coupled & (wanted != on_off) {
-        return Coupling::Sent(wanted);
-    }
-    Coupling::NotSent
+    (with_on_off && coupled && wanted != on_off).then_some(wanted)
 }

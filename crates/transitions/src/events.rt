@@ -1,69 +1,53 @@
-// The fifteen kinds of event (document 01, "Records"), and the actions that answer them.
-// Derived from level_control.rs of project-chip/rs-matter 43f61585a4 (see NOTICE), and changed.
-use crate::types::{Level, Mode, OptionsBitmap, Rate, Time};
-use units::{Micros, Millis};
+//! The kinds of event.
+//! Derived from level_control.rs of project-chip/rs-matter 43f61585a4 (see NOTICE), and changed.
+use crate::options::CommandOptions;
+use crate::types::{Level, Mode, Moment, Rate, Time};
+use units::Millis;
 
-// The fields of a request stand in the order that runs fastest, not by meaning (docs/DECISIONS.md).
-
-#[derive(Clone, Copy)]
+#[derive(Clone, Copy, Debug, PartialEq, Eq)]
 pub struct MoveToLevelRequest {
-    pub with_on_off: bool,
-    pub transition_time: Time,
     pub level: u8,
-    pub options_mask: OptionsBitmap,
-    pub options_override: OptionsBitmap,
-}
-
-#[derive(Clone, Copy)]
-pub struct MoveRequest {
-    pub with_on_off: bool,
-    pub mode: Mode,
-    pub options_mask: OptionsBitmap,
-    pub rate: Rate,
-    pub options_override: OptionsBitmap,
-}
-
-#[derive(Clone, Copy)]
-pub struct StepRequest {
-    pub with_on_off: bool,
     pub transition_time: Time,
+    pub options: CommandOptions,
+}
+
+#[derive(Clone, Copy, Debug, PartialEq, Eq)]
+pub struct MoveRequest {
+    pub mode: Mode,
+    pub rate: Rate,
+    pub options: CommandOptions,
+}
+
+#[derive(Clone, Copy, Debug, PartialEq, Eq)]
+pub struct StepRequest {
     pub mode: Mode,
     pub step_size: u8,
-    pub options_mask: OptionsBitmap,
-    pub options_override: OptionsBitmap,
+    pub transition_time: Time,
+    pub options: CommandOptions,
 }
 
-#[derive(Clone, Copy)]
-pub struct StopRequest {
-    pub with_on_off: bool,
-    pub options_mask: OptionsBitmap,
-    pub options_override: OptionsBitmap,
-}
-
-// What a scene recalls: the level that its pairs decide, or none.
-#[derive(Clone, Copy)]
+/// What a scene recalls: the level that its pairs decide, or none.
+#[derive(Clone, Copy, Debug, PartialEq, Eq)]
 pub struct SceneRequest {
-    pub transition_time: Millis,
     pub level: Level,
+    pub transition_time: Millis,
 }
 
-// What the device answers to a request.
-#[derive(Clone, Copy)]
+/// What the device answers to a request.
+#[derive(Clone, Copy, Debug, PartialEq, Eq)]
 pub enum DeviceAnswer {
     Level(u8),
     Missing,
     Failed,
 }
 
-#[derive(Clone, Copy)]
-pub enum EventKind {
-    StartUp,
+/// The kinds that share a turn: they are refused while a request to the device is open.
+#[derive(Clone, Copy, Debug, PartialEq, Eq)]
+pub enum Command {
     MoveToLevel(MoveToLevelRequest),
     Move(MoveRequest),
     Step(StepRequest),
-    Stop(StopRequest),
-    Answer(DeviceAnswer),
-    Wake,
+    Stop(CommandOptions),
     OnOffChanged(bool),
     Scene(SceneRequest),
     DeviceUpdate(u8),
@@ -74,41 +58,16 @@ pub enum EventKind {
     FactoryReset,
 }
 
-// An event carries its clock time and the on/off value of the coupled cluster.
-#[derive(Clone, Copy)]
-pub struct Event {
-    pub at: Micros,
-    pub on_off: bool,
-    pub kind: EventKind,
-}
-
-// How an event takes its turn: three kinds have a rule of their own.
-#[derive(Clone, Copy)]
-pub enum Turn {
+#[derive(Clone, Copy, Debug, PartialEq, Eq)]
+pub enum EventKind {
     StartUp,
-    Answer,
+    Answer(DeviceAnswer),
     Wake,
-    Other,
+    Command(Command),
 }
 
-// The kinds of action, by their letters in document 01.
-#[derive(Clone, Copy)]
-pub enum ActionKind {
-    D,
-    P,
-    S,
-    C,
-    L,
-    R,
-    W,
-    E,
-    K,
-    X,
-}
-
-// The value is the level of D, 0 or 1 of C, the time of W, the number of E, and 0 of the others.
-#[derive(Clone, Copy)]
-pub struct Action {
-    pub kind: ActionKind,
-    pub value: u64,
+#[derive(Clone, Copy, Debug, PartialEq, Eq)]
+pub struct Event {
+    pub moment: Moment,
+    pub kind: EventKind,
 }

@@ -1,18 +1,12 @@
-// Part 7: the rules of a fade (the source's move_to_level_transition).
-// Derived from level_control.rs of project-chip/rs-matter 43f61585a4 (see NOTICE), and changed.
+//! The rules of a fade (the source's move_to_level_transition).
+//! Derived from level_control.rs of project-chip/rs-matter 43f61585a4 (see NOTICE), and changed.
 ghost use Rattle.std.specs.Prelude.{◌≡◌};
 ghost use Rattle.transitions.specs.Fade.{fade_period, is_transition_start, next_level, remaining_after, wait_or_ask};
 
+use std::cmp::Ordering;
 use units::{Micros, Millis, Tenths};
 
-// After an answer: wait until a time, or ask at once.
-#[derive(Clone, Copy)]
-pub enum Next {
-    Wait(Micros),
-    Ask,
-}
-
-// The time between two requests of a fade over some levels.
+/// The time between two requests of a fade over some levels.
 #[tactic(auto, unfolding(crate::specs::Fade::fade_period))]
 pub fn fade_period(transition_time: Tenths, steps: u8) -> Millis
     ensures { result ≡ fade_period transition_time steps }
@@ -24,45 +18,41 @@ pub fn fade_period(transition_time: Tenths, steps: u8) -> Millis
 pub fn is_transition_start(remaining: Millis, transition_time: Tenths) -> bool
     ensures { result ≡ is_transition_start remaining transition_time }
 {
-    remaining.equals(transition_time.to_millis())
+    remaining == transition_time.to_millis()
 }
 
-// The unrounded remaining time after an answer.
+/// The unrounded remaining time after an answer.
 #[tactic(auto, unfolding(crate::specs::Fade::remaining_after))]
 pub fn remaining_after(remaining: Millis, period: Millis, is_transition_end: bool) -> Millis
     ensures { result ≡ remaining_after remaining period is_transition_end }
 {
     if is_transition_end {
-        return Millis(0);
+        Millis(0)
+    } else {
+        remaining.saturating_sub(period)
     }
-    remaining.saturating_sub(period)
 }
 
-// The level that a fade asks for next: its own counter moves by one, whatever level the device gave back.
+/// The level that a fade asks for next: its own counter moves by one, whatever level the device gave back.
 #[tactic(auto, unfolding(crate::specs::Fade::next_level))]
 pub fn next_level(counter: u8, target: u8, transition_time: Tenths) -> u8
     ensures { result ≡ next_level counter target transition_time }
 {
-    if transition_time.is_zero() {
+    if transition_time == Tenths(0) {
         return target;
     }
-    if counter < target {
-        return counter + 1;
+    match counter.cmp(&target) {
+        Ordering::Less => counter + 1,
+        Ordering::Equal => target,
+        Ordering::Greater => counter - 1,
     }
-    if target < counter {
-        return counter - 1;
-    }
-    target
 }
 
-// The rest of the period, if the device left any.
+/// Until when the rest of the period is waited for; None where the device left none of it.
 #[tactic(auto, unfolding(crate::specs::Fade::wait_or_ask))]
-pub fn wait_or_ask(asked: Micros, answered: Micros, period: Micros) -> Next
+pub fn wait_or_ask(asked: Micros, answered: Micros, period: Micros) -> Option<Micros>
     ensures { result ≡ wait_or_ask asked answered period }
 {
     let latency = answered.saturating_sub(asked);
-    if latency.is_at_most(period) {
-        return Next::Wait(asked.saturating_add(period));
-    }
-    Next::Ask
+    (latency <= period).then_some(asked.saturating_add(period))
 }

@@ -1,9 +1,9 @@
-// The rules of the level side that need no state (document 01, parts 2 to 10, and its table of causes).
-// Derived from `LevelControlHandler` of project-chip/rs-matter 43f61585a4 (Apache-2.0, see NOTICE), and changed:
-// each rule is a function of its own, by value, proved to equal a definition of specs/.
+//! The rules of the level side that need no state.
+//! Derived from `LevelControlHandler` of project-chip/rs-matter 43f61585a4 (Apache-2.0, see NOTICE), and changed:
+//! each rule is a function of its own, proved to equal a definition of specs/.
 #![tactic(auto)]
 
-pub mod action_list;
+pub mod actions;
 pub mod causes;
 pub mod commands;
 pub mod coupling;

@@ -1,18 +1,15 @@
-// Part 8: the rules of a move (the source's move_transition).
-// Derived from level_control.rs of project-chip/rs-matter 43f61585a4 (see NOTICE), and changed.
+//! The rules of a move (the source's move_transition).
+//! Derived from level_control.rs of project-chip/rs-matter 43f61585a4 (see NOTICE), and changed.
 ghost use Rattle.std.specs.Prelude.{◌≡◌};
 ghost use Rattle.transitions.specs.Moves.{move_period};
 
 use units::Micros;
 
-// The time between two requests of a move (the source's Duration::from_hz). A rate of 0, which is refused before, gives 0.
+/// The time between two requests of a move (the source's Duration::from_hz). A rate of 0, which is refused before, gives 0.
 #[tactic(auto, unfolding(crate::specs::Moves::move_period))]
 pub fn move_period(rate: u8) -> Micros
     ensures { result ≡ move_period rate }
 {
-    if rate == 0 {
-        return Micros(0);
-    }
-    let hz = rate as u64;
-    Micros((1_000_000 + hz / 2) / hz)
+    let hz = u64::from(rate);
+    Micros((1_000_000 + hz / 2).checked_div(hz).unwrap_or(0))
 }

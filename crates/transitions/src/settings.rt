@@ -1,29 +1,27 @@
-// What is configured, and the attributes.
-// The fields stand in the order that runs fastest, not by meaning (docs/DECISIONS.md).
-// Derived from level_control.rs of project-chip/rs-matter 43f61585a4 (see NOTICE), and changed.
-use crate::types::{Level, OptionsBitmap, Rate, Time};
+//! What is configured, and the attributes.
+//! Derived from level_control.rs of project-chip/rs-matter 43f61585a4 (see NOTICE), and changed.
+use crate::types::{Level, LevelRange, OptionsBitmap, Rate, Time};
 use units::Tenths;
 
-// The attributes: events set three of them, and a reset puts all back to what is configured.
-#[derive(Clone, Copy)]
+/// The attributes: events set three of them, and a reset puts all back to what is configured.
+#[derive(Clone, Copy, Debug, PartialEq, Eq)]
 pub struct Attributes {
+    pub on_level: Level,
     pub options: OptionsBitmap,
+    pub on_off_transition_time: Tenths,
+    pub on_transition_time: Time,
+    pub off_transition_time: Time,
     pub default_move_rate: Rate,
     pub start_up_current_level: Level,
-    pub on_off_transition_time: Tenths,
-    pub off_transition_time: Time,
-    pub on_level: Level,
-    pub on_transition_time: Time,
 }
 
-// What was configured: the source's associated constants of the hooks.
-#[derive(Clone, Copy)]
+/// What was configured: the source's associated constants of the hooks.
+#[derive(Clone, Copy, Debug, PartialEq, Eq)]
 pub struct Settings {
-    pub fastest_rate: u8,
-    pub attributes: Attributes,
+    pub range: LevelRange,
     pub coupled: bool,
-    pub min_level: u8,
+    pub fastest_rate: u8,
     pub lighting: bool,
-    pub max_level: u8,
     pub current_level: Level,
+    pub attributes: Attributes,
 }

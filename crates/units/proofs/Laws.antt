@@ -1,46 +1,24 @@
 -- The laws of the units' definitions. Assumes nothing.
-use Prim.Native.Nat.{ℕ, ◌+◌, ◌-◌, ◌*◌, ◌/◌, ◌^◌, ◌≤◌, ◌<◌}
+use Rattle.std.specs.Prelude.{Some, None}
+use Prim.Native.Nat.{ℕ, ◌+◌, ◌*◌, ◌/◌, ◌≤◌, ◌<◌}
 use mathlib.Core.Bool.{Bool, true, false}
 use mathlib.Core.Path.{◌≡◌, refl, sym, ap, ◌∙◌}
 use mathlib.Core.Logic.{◌↔◌}
-use native.Mathlib.Nat.{add-div_right, div-eq_of_lt, div-zero, div-le_self, mul-le-mul, mul-div-le, lt-mul-div-succ}
+use native.Mathlib.Nat.{mul-div-le, lt-mul-div-succ}
 use native.Mathlib.Omega.{arith}
 use borrow.Author.Tests.{lt-ltb, le-ltb, ltb-true, ltb-false}
 use lib.Dec.{ltb}
-use Rattle.units.specs.Numbers.{div_ceil}
 use Rattle.units.specs.Units.{tenths, micros, scaled_floor, scaled_number}
 use Rattle.units.specs.declared.Tenths.{Tenths}
-use Rattle.units.specs.declared.Scaled.TheVariants.{Fits, Overflow}
 use Rattle.units.specs.Laws.{Laws}
 
--- the library's division by 0 gives 0
-pub div_by_none : (a b : ℕ) → b ≡ 0 → a / b ≡ 0
-div_by_none a b e = rw e (div-zero a)
-
--- a division rounded up, from one rounded down
-pub ceil_of_none : (a b : ℕ) → a ≡ 0 → 1 ≤ b → div_ceil a b ≡ 0
-ceil_of_none a b e h = div-eq_of_lt (omega arith)
-
-pub ceil_of_some : (a b : ℕ) → 1 ≤ a → 1 ≤ b → div_ceil a b ≡ (a - 1) / b + 1
-ceil_of_some a b g h =
-    let sum : a + (b - 1) ≡ (a - 1) + b = omega arith in
-    rw sum (add-div_right (a - 1) h)
-
--- the product of 16 and 8 bits fits 32
-pub product_fits : (a b : ℕ) → a < 65536 → b < 256 → a * b < 2 ^ 32
-product_fits a b g h = omega (arith, mul-le-mul {n₁ = a} {m₁ = b} {n₂ = 65535} {m₂ = 255} (omega arith) (omega arith))
-
--- a quotient of at most 16 bits fits 16
-pub quotient_fits : {q : ℕ} (a b : ℕ) → q ≡ a / b → a ≤ 65535 → q < 2 ^ 16
-quotient_fits a b e h = omega (arith, div-le_self a b)
-
 -- the two ways of a scaled count of tenths
-pub scaled_overflows : (t : Tenths) (factor divisor : ℕ) → 65535 < t.0 * factor → Overflow ≡ scaled_floor t factor divisor
+pub scaled_overflows : (t : Tenths) (factor divisor : ℕ) → 65535 < t.0 * factor → None ≡ scaled_floor t factor divisor
 unfolding scaled_floor
 scaled_overflows t factor divisor h = simp (lt-ltb 65535 (t.0 * factor) h)
 
 pub scaled_fits : (t : Tenths) (factor divisor : ℕ) {q : ℕ} → t.0 * factor ≤ 65535 → q ≡ t.0 * factor / divisor
-    → Fits (tenths q) ≡ scaled_floor t factor divisor
+    → Some (tenths q) ≡ scaled_floor t factor divisor
 unfolding scaled_floor
 scaled_fits t factor divisor h e = simp (le-ltb 65535 (t.0 * factor) h, e)
 
@@ -52,10 +30,10 @@ scaled_12 t factor divisor = (go (ltb 65535 (t.0 * factor)) refl, λ h. sym (ap 
     go false e h =
         absurd (let z : ◌≡◌ {A = ℕ} 0 12 = ap scaled_number (scaled_fits t factor divisor (ltb-false 65535 (t.0 * factor) e) refl) ∙ h in omega arith)
 
-fits_is : (s t : Tenths) → Fits s ≡ Fits t → s.0 ≡ t.0
+fits_is : (s t : Tenths) → Some s ≡ Some t → s.0 ≡ t.0
 fits_is s t e = ap (λ (x : Tenths). x.0) (cc)
 
-scaled_rounds_down : (t q : Tenths) (factor divisor : ℕ) → 1 ≤ divisor → scaled_floor t factor divisor ≡ Fits q
+scaled_rounds_down : (t q : Tenths) (factor divisor : ℕ) → 1 ≤ divisor → scaled_floor t factor divisor ≡ Some q
     → (divisor * q.0 ≤ t.0 * factor) × (t.0 * factor < divisor * (q.0 + 1))
 scaled_rounds_down t q factor divisor pos h = go (ltb 65535 (t.0 * factor)) refl
   where

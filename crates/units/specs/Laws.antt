@@ -1,11 +1,10 @@
--- The conversions in document 01's own words, each a law for every value.
-use Rattle.std.specs.Prelude.{ℕ, ◌+◌, ◌*◌, ◌≤◌, ◌<◌, ◌≡◌, ◌↔◌}
+-- Units: laws of the conversions, for every value, in the words of docs/RULES.md.
+use Rattle.std.specs.Prelude.{ℕ, ◌+◌, ◌*◌, ◌≤◌, ◌<◌, ◌≡◌, ◌↔◌, Some}
 use Rattle.units.specs.Numbers.{apart}
 use Rattle.units.specs.Units.{tenths_up, tenths_down, tenths_to_millis, later, elapsed, millis_to_micros, scaled_floor, scaled_number}
 use Rattle.units.specs.declared.Tenths.{Tenths}
 use Rattle.units.specs.declared.Millis.{Millis}
 use Rattle.units.specs.declared.Micros.{Micros}
-use Rattle.units.specs.declared.Scaled.TheVariants.{Fits}
 
 pub record Laws : Type 0 where
   -- a tenth is 100 ms, a millisecond 1,000 µs, and ten tenths a second of the clock, 1,000,000 µs
@@ -27,7 +26,7 @@ pub record Laws : Type 0 where
   pub later_is_later : (at span : Micros) → at.0 ≤ 18446744073709551615 → at.0 ≤ (later at span).0
   -- 12 exactly if the product is above 65,535; else the quotient q, rounded down: divisor·q ≤ T·factor < divisor·(q + 1)
   pub scaled_12 : (t : Tenths) (factor divisor : ℕ) → (scaled_number (scaled_floor t factor divisor) ≡ 12) ↔ (65535 < t.0 * factor)
-  pub scaled_rounds_down : (t q : Tenths) (factor divisor : ℕ) → 1 ≤ divisor → scaled_floor t factor divisor ≡ Fits q
+  pub scaled_rounds_down : (t q : Tenths) (factor divisor : ℕ) → 1 ≤ divisor → scaled_floor t factor divisor ≡ Some q
       → (divisor * q.0 ≤ t.0 * factor) × (t.0 * factor < divisor * (q.0 + 1))
   -- |a − b|: with the smaller of the two it makes the larger
   pub apart_between : (a b : ℕ) → a ≤ b → (a + apart a b ≡ b) × (a + apart b a ≡ b)

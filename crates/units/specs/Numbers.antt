@@ -1,5 +1,4 @@
--- Numbers: what the small helpers give (document 01, "Forms to replace").
--- The library's `-` on ℕ stops at 0, and its `/ 0` is 0.
+-- Units: helpers on plain numbers. The library's `-` on ℕ stops at 0, and its `/ 0` is 0.
 use Rattle.std.specs.Prelude.{ℕ, ◌+◌, ◌-◌, ◌/◌, min, max}
 
 -- |a − b|

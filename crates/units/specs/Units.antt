@@ -1,11 +1,9 @@
--- Units of time (document 01, part 1), and what their functions give.
-use Rattle.std.specs.Prelude.{ℕ, ◌+◌, ◌-◌, ◌*◌, ◌/◌, ◌%◌, min, Bool, cond, ltb, leb, eqb}
+-- Units: tenths, milliseconds and microseconds, and what is computed of them.
+use Rattle.std.specs.Prelude.{ℕ, ◌+◌, ◌-◌, ◌*◌, ◌/◌, ◌%◌, min, Bool, cond, ltb, leb, eqb, Option, Some, None}
 use Rattle.units.specs.Numbers.{apart, div_ceil}
 use Rattle.units.specs.declared.Tenths.{Tenths}
 use Rattle.units.specs.declared.Millis.{Millis}
 use Rattle.units.specs.declared.Micros.{Micros}
-use Rattle.units.specs.declared.Scaled.{Scaled}
-use Rattle.units.specs.declared.Scaled.TheVariants.{Fits, Overflow}
 
 abbrev pub tenths : ℕ → Tenths
 tenths n = record { 0 = n }
@@ -22,11 +20,11 @@ micros n = record { 0 = n }
 abbrev pub tenths_to_millis : Tenths → Millis
 tenths_to_millis t = millis (t.0 * 100)
 
--- milliseconds ÷ 100 rounded up (part 2). The attribute has 16 bits: of a larger count, which no fade reaches, the low ones are kept
+-- milliseconds ÷ 100 rounded up. The attribute has 16 bits: of a larger count, which no fade reaches, the low ones are kept
 abbrev pub tenths_up : Millis → Tenths
 tenths_up m = tenths (div_ceil m.0 100 % 65536)
 
--- milliseconds ÷ 100 rounded down, at most 65,535 (part 10)
+-- milliseconds ÷ 100 rounded down, at most 65,535
 abbrev pub tenths_down : Millis → Tenths
 tenths_down m = tenths (min 65535 (m.0 / 100))
 
@@ -47,13 +45,13 @@ abbrev pub tenths_apart : Tenths → Tenths → Tenths
 tenths_apart a b = tenths (apart a.0 b.0)
 
 -- t × factor ÷ divisor rounded down, if the product is at most 65,535
-unfoldable pub scaled_floor : Tenths → ℕ → ℕ → Scaled
-scaled_floor t factor divisor = cond (ltb 65535 (t.0 * factor)) Overflow (Fits (tenths (t.0 * factor / divisor)))
+unfoldable pub scaled_floor : Tenths → ℕ → ℕ → Option Tenths
+scaled_floor t factor divisor = cond (ltb 65535 (t.0 * factor)) None (Some (tenths (t.0 * factor / divisor)))
 
--- "shortened step's product above 65,535": 12
-abbrev pub scaled_number : Scaled → ℕ
-scaled_number (Fits t) = 0
-scaled_number Overflow = 12
+-- Causes: 12, a product above 65,535
+abbrev pub scaled_number : Option Tenths → ℕ
+scaled_number (Some t) = 0
+scaled_number None = 12
 
 abbrev pub millis_same : Millis → Millis → Bool
 millis_same a b = eqb a.0 b.0
@@ -71,7 +69,7 @@ before a b = ltb a.0 b.0
 abbrev pub at_most : Micros → Micros → Bool
 at_most a b = leb a.0 b.0
 
--- a span later. Beyond 2^64 − 1, which no play reaches (its times end at 2^62 − 1 and its longest span is 6,553,500,000 µs), the sum is held there
+-- a span later, held at 2^64 − 1. No play reaches that: its times end at 2^62 − 1, and its longest span is 6,553,500,000 µs
 abbrev pub later : Micros → Micros → Micros
 later at span = micros (min 18446744073709551615 (at.0 + span.0))
 

@@ -7,7 +7,7 @@ pub type AttrId = u32;
 pub type ClusterId = u32;
 pub type EndptId = u16;
 
-/// Data versions are left out by document 01.
+/// Data versions are left out by docs/RULES.md.
 pub struct Dataver;
 
 impl Dataver {
@@ -73,7 +73,7 @@ pub trait HandlerContext {
 pub trait ReadContext: HandlerContext {}
 pub trait InvokeContext: HandlerContext {}
 pub trait WriteContext: HandlerContext {
-    /// A setter's report of its own attribute is no action of document 01.
+    /// A setter's report of its own attribute is no action (docs/RULES.md, Events and answers).
     fn notify_changed(&self) {}
 }
 
@@ -93,7 +93,7 @@ pub mod clusters {
             use crate::error::Error;
             use crate::play;
 
-            /// Only the mark counts: the delay and the save are left out by document 01.
+            /// Only the mark counts: the delay and the save are left out by docs/RULES.md.
             pub struct DeferredPersist;
 
             impl DeferredPersist {
@@ -283,7 +283,7 @@ pub mod clusters {
                 StopWithOnOff = 7,
             }
 
-            /// With every attribute and command that `validate` asks for: its lists are left out by document 01.
+            /// With every attribute and command that `validate` asks for: its lists are left out by docs/RULES.md.
             pub const FULL_CLUSTER: Cluster<'static> = Cluster {
                 id: 8,
                 revision: 6,

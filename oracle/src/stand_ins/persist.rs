@@ -1,4 +1,4 @@
-//! Storage that only records that it was called: document 01 leaves the KV store and its delay out.
+//! Storage that only records that it was called: docs/RULES.md leaves the key-value store and its delay out.
 use crate::error::Error;
 use crate::play;
 

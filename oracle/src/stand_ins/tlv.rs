@@ -1,4 +1,4 @@
-//! Values as they are after decoding: document 01 leaves the encoding out.
+//! Values as they are after decoding: docs/RULES.md leaves the encoding out.
 use crate::error::Error;
 
 pub use tlv_derive::{FromTLV, ToTLV};

@@ -1,4 +1,4 @@
-//! The two derives of the source's `PersistedAttrs`, without the encoding: document 01 leaves TLV out.
+//! The two derives of the source's `PersistedAttrs`, without the encoding: docs/RULES.md leaves TLV out.
 use proc_macro::TokenStream;
 
 #[proc_macro_derive(FromTLV)]

@@ -1,17 +1,11 @@
-use Rattle.std.proofs.Common.{◌+◌, arith, sym, ◌∙◌}
-use Rattle.records.specs.Bytes.{zeros_from}
-use Rattle.records.proofs.ByteLaws.{zeros_step, zeros_stop, zeros_end}
+use Rattle.std.proofs.Common.{drop, nat_eq, rules, tests, arith}
+use Rattle.std.proofs.lemmas.Grind.{common_steps}
+use Rattle.std.proofs.lemmas.Iterator.{YieldsList-from_slice}
+use Rattle.std.proofs.lemmas.Iterator.Search.{all_from_yields_List}
 use Rattle.records.proofs.bytes.zeros_from.Goals as goal
 
-pub returns-then-u64_at-ne0 : goal.returns-then-u64_at-ne0
-unfolding zeros_from
-returns-then-u64_at-ne0 c =
-    sym (zeros_stop 8 c.args.bytes.now c.loop-i.i (λ z. c.if-u64_at-ne0.true (c.u64_at.ensures ∙ z))) ∙ c.loop-i.invariant
-
-pub returns-then-bytes-i-le8 : goal.returns-then-bytes-i-le8
-unfolding zeros_from
-returns-then-bytes-i-le8 c =
-    let bytes = c.args.bytes.now in
-    sym (zeros_end bytes (c.loop-i.i + 8) (omega arith))
-    ∙ zeros_step 8 bytes c.loop-i.i (sym c.u64_at.ensures ∙ c.if-u64_at-ne0.false)
-    ∙ c.loop-i.invariant
+pub returns : goal.returns
+returns c =
+    all_from_yields_List (λ byte. nat_eq byte 0) _ _ c.all.result c.all.ensures.ran
+    (YieldsList-from_slice {s = c.iter.result} (drop c.args.at c.args.bytes.now) (grind (arith, common_steps)))
+    (λ x b q k. search (rules, tests))

@@ -1,20 +1,14 @@
-use Rattle.std.proofs.Common.{◌≤◌, ◌∙◌, ap, arith}
-use Rattle.text.proofs.WriteLaws.{by_test}
-use Rattle.sheet.specs.Play.{fitted}
-use Rattle.sheet.proofs.SheetLaws.{fit_yes, fit_no, length_back}
+use Rattle.std.proofs.Common.{◌≤◌, length, arith}
+use Rattle.sheet.proofs.SheetLaws.{fit_yes, sure}
 use Rattle.sheet.proofs.lines.fit.Goals as goal
+use Rattle.sheet.proofs.lines.fit.Goals.{else-not-surely_fits-via-then-not-surely_fits+else-out-put_each, else-not-surely_fits-via-else-not-surely_fits}
 
-pub returns-then-need-room-clause-out_after : goal.returns-then-need-room-clause-out_after
-returns-then-need-room-clause-out_after c =
-    let l = c.loop-room in
-    let put = c.put_each-need in
-    fit_yes l.out put.new.out l.room l.invariant.inside put.auto.out _ (omega arith) put.ensures.value (omega arith) put.ensures.wrote ∙ ap (fitted _) l.invariant.kept
-
--- where the lines needed more room than there was, there was none
-pub returns-then-out-need-clause-out_after : goal.returns-then-out-need-clause-out_after
-returns-then-out-need-clause-out_after c =
-    let l = c.loop-room in
-    let put = c.put_each-need in
-    let same = length_back l.out put.new.out l.room l.invariant.inside put.auto.out in
-    let none : l.room ≤ 0 = by_test 0 l.room (λ some. absurd (omega (arith, l.invariant.enough some))) (λ h. h) in
-    fit_no l.out put.new.out l.room l.invariant.inside put.auto.out _ none put.ensures.value (omega (arith, same)) ∙ ap (fitted _) l.invariant.kept
+-- the text was measured, and fits, or its lines are too few to exceed the room
+pub returns-clause-out_after : goal.returns-clause-out_after
+returns-clause-out_after c =
+    let put = c.put_each-2 in
+    let fits : put.result ≤ length c.args.out.now = elim c.else-not-surely_fits.branch [
+      | else-not-surely_fits-via-then-not-surely_fits+else-out-put_each w ↦ omega (arith, w.put_each.ensures.value)
+      | else-not-surely_fits-via-else-not-surely_fits w ↦ omega (arith, sure _ _ c.surely_fits.ensures w.if-not-surely_fits.false)
+    ] in
+    fit_yes _ c.args.out.now put.new.out (omega arith) put.ensures.value fits put.ensures.wrote

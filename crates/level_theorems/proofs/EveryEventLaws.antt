@@ -1,0 +1,177 @@
+-- Every event, proved. Assumes nothing.
+use Prim.Native.Nat.{ℕ, ◌≤◌}
+use lib.ListN.{length}
+use mathlib.Core.Bool.{Bool, true, false, true≢false}
+use mathlib.Core.Path.{◌≡◌, refl, sym, ap, subst, ◌∙◌}
+use mathlib.Core.Logic.{◌↔◌, ◌⊎◌}
+use mathlib.Core.List.{List, [], ◌∷◌, ◌++◌}
+use native.Mathlib.Omega.{arith}
+use borrow.Author.Tests.{eqb-true, eqb-false, ltb-false}
+use lib.Dec.{eqb}
+use Rattle.units.specs.Units.{before, micros}
+use Rattle.units.specs.declared.Micros.{Micros}
+use Rattle.transitions.specs.Causes.{Row, rows, first_cause}
+use Rattle.transitions.specs.Events.{action, act}
+use Rattle.transitions.specs.Search.{NoneOf, First}
+use Rattle.transitions.specs.declared.actions.Action.{Action}
+use Rattle.transitions.specs.declared.actions.ActionKind.TheVariants.{W, X}
+use Rattle.transitions.specs.declared.events.Event.{Event}
+use Rattle.transitions.specs.declared.events.EventKind.{EventKind}
+use Rattle.transitions.specs.declared.events.EventKind.TheVariants as kind
+use Rattle.transitions.specs.declared.tasks.Phase.TheVariants.{Waiting}
+use Rattle.transitions.proofs.RuleLaws.{rule_laws}
+use Rattle.level_control.specs.Answer.{Outcome, done, refused}
+use Rattle.level_control.specs.Causes.{time_refused, turn_tests, command_tests_of}
+use Rattle.level_control.specs.Events.{run, number_of, event_of}
+use Rattle.level_control.specs.Rest.{reset_all}
+use Rattle.level_control.specs.State.{new_state, put_back, accept}
+use Rattle.level_theorems.specs.Orders.{kinds_of, OneOf, orders}
+use Rattle.level_theorems.specs.EveryEvent as claim
+use Rattle.level_theorems.specs.EveryEvent.{LevelFrom, AttributesFrom, unchanged, by_set_on_level, by_set_default_move_rate, by_set_start_up, by_factory_reset, InPhase, WaitAfter, EveryEvent, tests_of}
+use Rattle.level_control.specs.declared.state.LevelControlState.{LevelControlState}
+use Rattle.level_control.proofs.AnswerLaws.{unpacked}
+use Rattle.level_control.proofs.EventLaws.{stopped_in, event_refused, event_stopped, event_runs, event_number, turn_passes}
+use Rattle.event_theorems.specs.Brings.{brings}
+use Rattle.event_theorems.specs.Fields.{next_state}
+use Rattle.event_theorems.proofs.RunLaws.{gives}
+use Rattle.event_theorems.proofs.ByFieldHolds.{runs_by}
+use Rattle.level_theorems.proofs.LevelLaws.{level_from, attributes_from}
+use Rattle.level_theorems.proofs.PatternLaws.{at_most_seven_of}
+use Rattle.level_theorems.proofs.ShapeLaws.{orders_shape}
+use Rattle.level_theorems.proofs.OrderLaws.{letters_ordered}
+use Rattle.level_theorems.proofs.WaitLaws.{waits_in, Waited, no_wait, waits, gives_waited, no_entry, one_entry, found}
+use Rattle.transitions.specs.declared.events.Command.TheVariants as command
+
+-- an event is refused, or stopped by the options, or gives what the pages of event_theorems say
+three_ways : (s : LevelControlState) (e : Event) (Q : Outcome → Type 0)
+    → ((number_of s e ≡ 0 → ⊥) → Q (refused s (number_of s e)))
+    → (number_of s e ≡ 0 → Q (done (accept s e.moment.at) []))
+    → Q (gives s (brings s e.kind) e.moment.at e.moment.on_off)
+    → Q (event_of s e)
+three_ways s e Q kept stopped runs = go (eqb (number_of s e) 0) refl (stopped_in s e) refl
+  where
+    go : (b : Bool) → eqb (number_of s e) 0 ≡ b → (c : Bool) → stopped_in s e ≡ c → Q (event_of s e)
+    go true p true q = let z = eqb-true (number_of s e) 0 p in subst Q (sym (event_stopped s e z q)) (stopped z)
+    go true p false q = let z = eqb-true (number_of s e) 0 p in subst Q (sym (runs_by s e z q)) runs
+    go false p c q = let z = eqb-false (number_of s e) 0 p in subst Q (sym (event_refused s e z)) (kept z)
+
+refused_keeps : (s : LevelControlState) (e : Event) → ((event_of s e).number ≡ 0 → ⊥) → ((event_of s e).state ≡ s) × ((event_of s e).actions ≡ [])
+refused_keeps s e h =
+    let same = event_refused s e (λ z. h (event_number s e ∙ z)) in
+    (ap (λ (o : Outcome). o.state) same, ap (λ (o : Outcome). o.actions) same)
+
+first_cause_is_first : (s : LevelControlState) (e : Event) (n : ℕ)
+    → ((event_of s e).number ≡ n)
+    ↔ (((r : Row) × First (λ r. r.applies) (rows (tests_of s e)) r × (r.number ≡ n))
+    ⊎ (NoneOf (λ r. r.applies) (rows (tests_of s e)) × (n ≡ 0)))
+unfolding number_of
+first_cause_is_first s e n =
+    let is : (event_of s e).number ≡ first_cause (tests_of s e) = event_number s e in
+    let law = rule_laws.cause (tests_of s e) n in
+    (λ h. law.0 (sym is ∙ h), λ h. is ∙ law.1 h)
+
+reset_is : (s : LevelControlState) (e : Event) → e.kind ≡ (kind.Command command.FactoryReset) → number_of s e ≡ 0 → event_of s e ≡ done (put_back (accept s e.moment.at)) (act X 0)
+unfolding command_tests_of run reset_all
+reset_is s e k z =
+    event_runs s e z (ap (λ (k : EventKind). (command_tests_of s e.moment.on_off k).stopped_by_options) k)
+    ∙ ap (λ (k : EventKind). run (accept s e.moment.at) k e.moment.at e.moment.on_off) k
+
+-- the tests of an event's turn begin with its time
+time_first : (s : LevelControlState) (at : Micros) (k : EventKind) → (turn_tests s at k).time_refused ≡ time_refused s at
+unfolding turn_tests
+time_first s at kind.StartUp = refl
+time_first s at (kind.Answer a) = refl
+time_first s at kind.Wake = refl
+time_first s at (kind.Command c) = refl
+
+is_in_time : (s : LevelControlState) (e : Event) → number_of s e ≡ 0 → s.last_accepted.0 ≤ e.moment.at.0
+unfolding number_of time_refused
+is_in_time s e z =
+    let w = sym (time_first s e.moment.at e.kind) ∙ (turn_passes _ _ z).is_in_time in
+    go (before e.moment.at s.last_accepted) refl w
+  where
+    go : (b : Bool) → before e.moment.at s.last_accepted ≡ b → time_refused s e.moment.at ≡ false → s.last_accepted.0 ≤ e.moment.at.0
+    go true p w = absurd (true≢false (rw p at w))
+    go false p w = ltb-false _ _ p
+
+-- an accepted event's time is the last accepted
+accepted_time : (s : LevelControlState) (e : Event) → number_of s e ≡ 0 → (event_of s e).state.last_accepted ≡ e.moment.at
+unfolding accept next_state
+accepted_time s e z = three_ways s e (λ (o : Outcome). o.state.last_accepted ≡ e.moment.at) (λ h. absurd (h z)) (λ h. refl) refl
+
+time_never_falls : (s : LevelControlState) (e : Event) → s.last_accepted.0 ≤ (event_of s e).state.last_accepted.0
+time_never_falls s e = go (eqb (number_of s e) 0) refl
+  where
+    go : (b : Bool) → eqb (number_of s e) 0 ≡ b → s.last_accepted.0 ≤ (event_of s e).state.last_accepted.0
+    go true p = let z = eqb-true (number_of s e) 0 p in rw (accepted_time s e z) (is_in_time s e z)
+    go false p = rw (event_refused s e (eqb-false (number_of s e) 0 p)) (omega arith)
+
+level_comes_from : (s : LevelControlState) (e : Event) → LevelFrom s e.kind (event_of s e).state.current_level
+unfolding accept next_state
+level_comes_from s e =
+    three_ways s e (λ (o : Outcome). LevelFrom s e.kind o.state.current_level) (λ h. claim.kept) (λ h. claim.kept) (level_from s e.kind)
+
+settings_stay : (s : LevelControlState) (e : Event) → (event_of s e).state.settings ≡ s.settings
+unfolding accept next_state
+settings_stay s e = three_ways s e (λ (o : Outcome). o.state.settings ≡ s.settings) (λ h. refl) (λ h. refl) refl
+
+attributes_come_from : (s : LevelControlState) (e : Event) → AttributesFrom s e.kind (event_of s e).state.attributes
+unfolding accept next_state
+attributes_come_from s e =
+    three_ways s e (λ (o : Outcome). AttributesFrom s e.kind o.state.attributes) (λ h. unchanged) (λ h. unchanged) (attributes_from s e.kind)
+
+action_order : (s : LevelControlState) (e : Event) → OneOf (orders s.task e.kind) (kinds_of (event_of s e).actions)
+action_order s e =
+    three_ways s e (λ (o : Outcome). OneOf (orders s.task e.kind) (kinds_of o.actions))
+    (λ h. (orders_shape s.task e.kind).silent)
+    (λ h. (orders_shape s.task e.kind).silent)
+    (letters_ordered s e.kind e.moment.at e.moment.on_off).kinds
+
+event_waited : (s : LevelControlState) (e : Event) → Waited s e.kind (event_of s e)
+event_waited s e =
+    three_ways s e (λ (o : Outcome). Waited s e.kind o) (λ h. no_wait refl) (λ h. no_wait refl) (gives_waited s e.kind e.moment.at e.moment.on_off)
+
+wait_after_request : (s : LevelControlState) (e : Event) (u : ℕ) (earlier others : List Action)
+    → (event_of s e).actions ≡ earlier ++ (action W u ∷ others) → WaitAfter s e u
+wait_after_request s e u earlier others h = by (event_waited s e)
+  where
+    stands : waits_in (event_of s e).actions ≡ waits_in earlier ++ (u ∷ waits_in others)
+    stands = found (event_of s e).actions earlier others u h
+
+    by : Waited s e.kind (event_of s e) → WaitAfter s e u
+    by (no_wait q) = absurd (no_entry (waits_in earlier) (waits_in others) u (sym q ∙ stands))
+    by (waits v since until answers asked order waiting q) =
+        let same : until.0 ≡ u = one_entry (waits_in earlier) (waits_in others) until.0 u (sym q ∙ stands) in
+        record {
+          level = v;
+          answers = answers;
+          since = since;
+          asked = asked;
+          not_before = λ n. rw (← same) (order n);
+          waits = subst (λ (x : ℕ). InPhase (event_of s e).state.task (Waiting (micros x))) same waiting;
+        }
+
+at_most_seven : (s : LevelControlState) (e : Event) → length (event_of s e).actions ≤ 7
+at_most_seven s e = at_most_seven_of (orders s.task e.kind) (event_of s e).actions (action_order s e) (orders_shape s.task e.kind).few
+
+pub every_event : EveryEvent
+unfolding accept new_state put_back
+every_event = record {
+  refused_keeps = refused_keeps;
+  first_cause_is_first = first_cause_is_first;
+  stopped_accepted = λ s e z q.
+      let same = event_stopped s e z q in
+      (ap (λ (o : Outcome). o.number) same, ap (λ (o : Outcome). o.actions) same, ap (λ (o : Outcome). o.state) same);
+  at_most_seven = at_most_seven;
+  slots_are_actions = λ s e. unpacked (event_of s e) (at_most_seven s e);
+  action_order = action_order;
+  reset = λ s e k z.
+      let same = reset_is s e k (sym (event_number s e) ∙ z) in
+      (ap (λ (o : Outcome). o.actions) same, ap (λ (o : Outcome). o.state) same);
+  time_never_falls = time_never_falls;
+  time_accepted = λ s e z. accepted_time s e (sym (event_number s e) ∙ z);
+  level_comes_from = level_comes_from;
+  wait_after_request = wait_after_request;
+  settings_stay = settings_stay;
+  attributes_come_from = attributes_come_from;
+}
