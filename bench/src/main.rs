@@ -158,27 +158,19 @@ fn compare(all: &[Play], made: &[(&str, Play)], out: &mut [u8]) {
         }
         let ratio = |side: usize| median(times.iter().map(|round| round[side] / round[0]));
         println!(" {:6.2} {:8.2} {:5.2}", ratio(2), ratio(3), ratio(1));
-        ratios.push((ratio(2), ratio(1)));
+        ratios.push(ratio(1));
     }
-    goal(
-        "10 times as fast as (a)",
-        10.0,
-        ratios.iter().map(|pair| pair.0),
-    );
-    goal("not slower than (b)", 1.0, ratios.iter().map(|pair| pair.1));
+    bar(&ratios);
 }
 
-fn goal(name: &str, least: f64, ratios: impl Iterator<Item = f64> + Clone) {
-    let lowest = ratios.clone().fold(f64::INFINITY, f64::min);
-    let highest = ratios.fold(0.0, f64::max);
-    let met = if lowest >= least {
-        "met"
-    } else if highest >= least {
-        "met in some rows"
-    } else {
-        "not met"
-    };
-    println!("goal, {name}: {met}, {lowest:.2} to {highest:.2}");
+/// In no row slower than (b).
+fn bar(ratios: &[f64]) {
+    let lowest = ratios
+        .iter()
+        .fold(f64::INFINITY, |least, ratio| least.min(*ratio));
+    let highest = ratios.iter().fold(0.0_f64, |most, ratio| most.max(*ratio));
+    let met = if lowest >= 1.0 { "met" } else { "not met" };
+    println!("not slower than (b): {met}, {lowest:.2} to {highest:.2}");
 }
 
 /// The first events of a long play.

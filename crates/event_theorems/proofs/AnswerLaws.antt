@@ -35,7 +35,7 @@ use Rattle.level_control.specs.Reactions.{on_time, on_to, on_goes_on, on_answere
 use Rattle.level_control.specs.Reports.{coupled_by, level_due, set_level, told_level, write_remaining_time}
 use Rattle.level_control.specs.Rest.{stored_start_up, start_up_answered}
 use Rattle.level_control.specs.Starts.{given_or, target}
-use Rattle.level_control.specs.State.{accept, with_answered, with_level, with_previous_level, with_task, with_remaining_time}
+use Rattle.level_control.specs.State.{accept, with_task}
 use Rattle.level_control.specs.Targets.{request_to, go_to}
 use Rattle.transitions.specs.Actions.{Reports}
 use Rattle.level_control.specs.Reports.{Told}
@@ -64,17 +64,17 @@ at_task s x = record {
 }
 
 -- a task whose answers fall under Level reports
-abbrev by_part_4 : Task → Bool
-by_part_4 task.Rest = false
-by_part_4 task.StartUp = false
-by_part_4 (task.Fade f) = true
-by_part_4 (task.Move m) = true
-by_part_4 (task.OnReaction r) = true
+abbrev reports_level : Task → Bool
+reports_level task.Rest = false
+reports_level task.StartUp = false
+reports_level (task.Fade f) = true
+reports_level (task.Move m) = true
+reports_level (task.OnReaction r) = true
 
 module _ (s : LevelControlState) (at : Micros) (on : Bool) where
   -- an answer to start-up
   start_up_gives : (a : DeviceAnswer) → start_up_answered (accept (at_task s task.StartUp) at) a ≡ gives (at_task s task.StartUp) (Answers a) at on
-  unfolding start_up_answered stored_start_up next_state letters course.course accept with_task with_level level_or
+  unfolding start_up_answered stored_start_up next_state letters course.course level_or
   start_up_gives (device.Level v) =
       ap (λ (l : List Action). done (next_state (at_task s task.StartUp) (Answers (device.Level v)) at) l)
       (ap (λ (b : Bool). act_if b P) (changed_is s.current_level (Some v)) ∙ sym (append-nil _))
@@ -84,8 +84,8 @@ module _ (s : LevelControlState) (at : Micros) (on : Bool) where
   start_up_gives device.Failed = refl
 
   -- a failed device
-  failed_gives : (x : Task) → by_part_4 x ≡ true → device_failed (accept (at_task s x) at) ≡ gives (at_task s x) (Answers device.Failed) at on
-  unfolding device_failed next_state letters course.course accept with_task with_previous_level level_or
+  failed_gives : (x : Task) → reports_level x ≡ true → device_failed (accept (at_task s x) at) ≡ gives (at_task s x) (Answers device.Failed) at on
+  unfolding device_failed next_state letters course.course level_or
   failed_gives task.Rest e = absurd (false≢true e)
   failed_gives task.StartUp e = absurd (false≢true e)
   failed_gives (task.Fade f) e = refl
@@ -143,7 +143,7 @@ module _ (s : LevelControlState) (f : Fade) (at : Micros) (on : Bool) (v : ℕ) 
   told = fade_told (accept (at_task s (task.Fade f)) at) f at on v
 
   ended : (back : Level) → eqb f.counter f.target ≡ true → fade_ended_by back told ≡ done (faded true back course.AtRest) (tells_of true back course.AtRest)
-  unfolding restored fade_told fade_stored fade_coupling coupled_by set_level level_due current_level_due write_remaining_time is_transition_start remaining_after accept with_task with_level with_answered with_remaining_time level_or
+  unfolding restored fade_told fade_stored fade_coupling coupled_by set_level level_due current_level_due write_remaining_time is_transition_start remaining_after level_or
   ended (Some before) q =
       let letters-of = reports_of (reports (not (is_level s.current_level v)) true) in
       rw q
@@ -156,7 +156,7 @@ module _ (s : LevelControlState) (f : Fade) (at : Micros) (on : Bool) (v : ℕ) 
 
   goes_on : (since : Micros) → eqb f.counter f.target ≡ false
       → fade_goes_on told f since at ≡ done (faded false None (course.fade_on f (Asked since) at)) (tells_of false None (course.fade_on f (Asked since) at))
-  unfolding fade_goes_on wait_or_ask fade_asking fade_waiting fade_told fade_stored fade_coupling coupled_by set_level level_due current_level_due write_remaining_time is_transition_start remaining_after accept with_task with_answered with_remaining_time level_or
+  unfolding fade_goes_on wait_or_ask fade_asking fade_waiting fade_told fade_stored fade_coupling coupled_by set_level level_due current_level_due write_remaining_time is_transition_start remaining_after level_or
   goes_on since q = by (leb (at.0 - since.0) (f.period.0 * 1000))
     where
       span : ℕ
@@ -178,7 +178,7 @@ module _ (s : LevelControlState) (f : Fade) (at : Micros) (on : Bool) (v : ℕ) 
   -- the pages say the same
   level_gives : (since : Micros) → f.phase ≡ Asked since
       → move_to_level_transition (accept (at_task s (task.Fade f)) at) f since at on v ≡ gives (at_task s (task.Fade f)) (Answers (device.Level v)) at on
-  unfolding move_to_level_transition fade_ended fade_told fade_stored set_level write_remaining_time accept with_answered with_remaining_time next_state letters course.course level_or
+  unfolding move_to_level_transition fade_ended fade_told fade_stored set_level write_remaining_time next_state letters course.course level_or
   level_gives since e = by (eqb f.counter f.target) refl ∙ pages
     where
       last : Bool
@@ -204,7 +204,7 @@ module _ (s : LevelControlState) (f : Fade) (at : Micros) (on : Bool) (v : ℕ) 
 
   -- the device has no level
   missing_gives : fade_missing (accept (at_task s (task.Fade f)) at) f at ≡ gives (at_task s (task.Fade f)) (Answers device.Missing) at on
-  unfolding fade_missing set_level level_due current_level_due accept with_task with_answered next_state letters course.course level_or
+  unfolding fade_missing set_level level_due current_level_due next_state letters course.course level_or
   missing_gives =
       ap (λ (l : List Action). done (next_state (at_task s (task.Fade f)) (Answers device.Missing) at) l)
       (ap (λ (b : Bool). act_if b P ++ act_if (not f.scene_apply) S ++ act E 15) (changed_away s.current_level)
@@ -236,7 +236,7 @@ module _ (s : LevelControlState) (x : Task) (at : Micros) (on : Bool) (l : Level
   tells_within more = act_if (changed s.current_level l) P ++ (act S 0 ++ (act_if due L ++ more))
 
   pub told_in : (y : Task) (more : List Action) → done (with_task told_within.state y) (reports_of told_within.reports ++ more) ≡ done (stored_within y) (tells_within more)
-  unfolding told_level set_level level_due current_level_due accept with_task with_answered
+  unfolding told_level set_level level_due current_level_due
   told_in y more =
       ap (λ (z : List Action). done (stored_within y) z)
       (told_letters told_within.reports more ∙ ap (λ (b : Bool). act_if b P ++ (act S 0 ++ (act_if due L ++ more))) (changed_is s.current_level l))
@@ -246,7 +246,7 @@ module _ (s : LevelControlState) (at : Micros) (on : Bool) where
   module _ (m : Move) where
     move_level_gives : (since : Micros) (v : ℕ) → m.phase ≡ Asked since
         → move_transition (accept (at_task s (task.Move m)) at) m since at on v ≡ gives (at_task s (task.Move m)) (Answers (device.Level v)) at on
-    unfolding move_transition move_then move_ends wait_or_ask coupled_by told_level set_level accept with_answered next_state letters course.course level_or
+    unfolding move_transition move_then move_ends wait_or_ask coupled_by told_level set_level next_state letters course.course level_or
     move_level_gives since v e = by (is_end m.asked s.settings) ∙ ap (λ (p : Phase). shown (is_end m.asked s.settings) p) (sym e)
       where
         crs : Bool → Phase → Course
@@ -290,14 +290,14 @@ module _ (s : LevelControlState) (at : Micros) (on : Bool) where
 
     move_missing_gives : move_missing (accept (at_task s (task.Move m)) at) (move_ends (accept (at_task s (task.Move m)) at) m.asked) at
         ≡ gives (at_task s (task.Move m)) (Answers device.Missing) at on
-    unfolding move_missing move_ends accept next_state letters course.course level_or
+    unfolding move_missing move_ends next_state letters course.course level_or
     move_missing_gives = told_in s (task.Move m) at on None (is_end m.asked s.settings) task.Rest (act E 15)
 
   -- the on reaction
   module _ (r : OnReaction) where
     on_level_gives : (v : ℕ) → on_answered (accept (at_task s (task.OnReaction r)) at) r at on (device.Level v)
         ≡ gives (at_task s (task.OnReaction r)) (Answers (device.Level v)) at on
-    unfolding on_answered on_goes_on on_time told_level set_level accept with_answered next_state letters course.course level_or
+    unfolding on_answered on_goes_on on_time told_level set_level next_state letters course.course level_or
     on_level_gives v = from s.attributes.on_level r.before
       where
         t : Told
@@ -342,13 +342,13 @@ module _ (s : LevelControlState) (at : Micros) (on : Bool) where
         from None None = told_in s (task.OnReaction r) at on (Some v) false task.Rest (act E 15)
 
     on_missing_gives : move_missing (accept (at_task s (task.OnReaction r)) at) false at ≡ gives (at_task s (task.OnReaction r)) (Answers device.Missing) at on
-    unfolding move_missing accept next_state letters course.course level_or
+    unfolding move_missing next_state letters course.course level_or
     on_missing_gives = told_in s (task.OnReaction r) at on None false task.Rest (act E 15)
 
 -- an answer goes to the task whose request is open
 pub answer_gives : (s : LevelControlState) (a : DeviceAnswer) (at : Micros) (on : Bool) → task_open s.task ≡ true
     → answered (accept s at) a at on ≡ gives s (Answers a) at on
-unfolding answered fade_answered move_answered on_answered accept
+unfolding answered fade_answered move_answered on_answered
 answer_gives s a at on h = by s.task a h
   where
     fade : (f : Fade) (p : Phase) (a : DeviceAnswer) → f.phase ≡ p → phase_open p ≡ true

@@ -28,7 +28,7 @@ not_true false e = sym e
 module _ (s : LevelControlState) (at : Micros) (on : Bool) where
   run_gives : (k : EventKind) → TurnPasses (turn_tests s at k) → CommandPasses (command_tests_of s on k)
       → run (accept s at) k at on ≡ gives s (brings s k) at on
-  unfolding run turn_tests command_tests_of move_tests step_tests on_level_set default_move_rate_set start_up_current_level_set accept
+  unfolding run turn_tests command_tests_of move_tests step_tests on_level_set default_move_rate_set start_up_current_level_set
   run_gives kind.StartUp turn command = start_up_gives s at on
   run_gives (kind.Command (command.MoveToLevel r)) turn command = move_to_level_gives s at on r
   run_gives (kind.Command (command.Move r)) turn command = move_gives s at on r command.valid
@@ -51,7 +51,6 @@ runs_by s e z q =
     event_runs s e z q ∙ run_gives s e.moment.at e.moment.on_off e.kind (turn_passes _ _ z) (command_passes _ _ z q)
 
 pub by_field : ByField
-unfolding accept
 by_field = record {
   refuses = λ s e h. event_refused s e (λ z. h (sym (number_is s e) ∙ z)) ∙ ap (λ (n : ℕ). refused s n) (number_is s e);
   stops = λ s e z q. event_stopped s e (number_is s e ∙ z) (stopped_is s e ∙ q);

@@ -41,7 +41,7 @@ use Rattle.level_control.specs.Reactions.{off_time, turned_on, turned_off, switc
 use Rattle.level_control.specs.Reports.{level_due, set_level, write_remaining_time}
 use Rattle.level_control.specs.Rest.{start_up_or, start_up_level, start_up_at, started_up, updated, reset_all}
 use Rattle.level_control.specs.Starts.{distance, given_or, step_in, target}
-use Rattle.level_control.specs.State.{accept, put_back, with_answered, with_attributes, with_task, with_remaining_time}
+use Rattle.level_control.specs.State.{accept, put_back, with_attributes, with_task}
 use Rattle.level_control.specs.Targets.{quiet, request_to, go_to, moved_to_level, recalled_at, recalled, stepped_by, stepped_from, stepped, stepped_level, stepped_time, stopped}
 use Rattle.transitions.specs.Actions.{Reports}
 use Rattle.level_control.specs.declared.state.LevelControlState.{LevelControlState}
@@ -78,7 +78,7 @@ module _ (s : LevelControlState) (at : Micros) (on : Bool) where
   command_gives : (c : Command)
       → goes (accept s at) (command_course s c at) (act_coupled (command_couples_first c s on) ++ act_if (command_reports c s) L ++ act_coupled (command_couples_last c s on))
       ≡ gives s (Runs c) at on
-  unfolding next_state letters course.course accept with_task level_or
+  unfolding next_state letters course.course level_or
   command_gives c =
       ap (λ (l : List Action). done (with_task (accept s at) (task_on (command_course s c at) s.task)) l)
       (append_assoc (act_coupled (command_couples_first c s on) ++ act_if (command_reports c s) L) (act_coupled (command_couples_last c s on)) (course_letter (command_course s c at))
@@ -87,7 +87,7 @@ module _ (s : LevelControlState) (at : Micros) (on : Bool) where
   target_gives : (level : ℕ) (time : Tenths) (t T : ℕ) (with_on_off scene restores : Bool)
       → target_level level s.settings.range.min s.settings.range.max ≡ t → time.0 ≡ T
       → go_to (quiet (accept s at)) (request_to (accept s at) level time with_on_off scene restores) at on ≡ gives s (Runs (Target t T with_on_off scene restores)) at on
-  unfolding reports_of accept
+  unfolding reports_of
   target_gives level time t T with_on_off scene restores to within =
       go_to_is (quiet (accept s at)) (request_to (accept s at) level time with_on_off scene restores) at on s.current_level refl
       ∙ ap (λ (x : ℕ). goes (accept s at) (towards s.current_level x time.0 with_on_off scene restores at) (first x)) to
@@ -107,14 +107,14 @@ module _ (s : LevelControlState) (at : Micros) (on : Bool) where
       target_gives r.level (time_or r.transition_time (tenths 0)) _ _ r.options.with_on_off false false (target_is s r.level) (given_is r.transition_time (tenths 0))
 
   pub turned_gives : (value : Bool) → switched (accept s at) value at on ≡ gives s (Runs (turned value s)) at on
-  unfolding switched turned_on turned_off off_time accept
+  unfolding switched turned_on turned_off off_time
   turned_gives true = command_gives bring.On
   turned_gives false =
       target_gives s.settings.range.min (off_time (accept s at)) _ _ true false true (target_is s s.settings.range.min)
       (given_is s.attributes.off_transition_time s.attributes.on_off_transition_time)
 
   pub scene_gives : (r : SceneRequest) → recalled (accept s at) r at on ≡ gives s (Runs (scene_target r.level s r.transition_time.0)) at on
-  unfolding recalled accept with_task
+  unfolding recalled
   scene_gives r = by r.level
     where
       by : (l : Level) → recalled_at l (accept s at) r at on ≡ gives s (Runs (scene_target l s r.transition_time.0)) at on
@@ -122,7 +122,7 @@ module _ (s : LevelControlState) (at : Micros) (on : Bool) where
       by None = command_gives bring.NoTarget
 
   pub start_up_gives : started_up (accept s at) ≡ gives s (Runs bring.StartUp) at on
-  unfolding started_up start_up_level accept with_task
+  unfolding started_up start_up_level
   start_up_gives = by s.attributes.start_up_current_level ∙ command_gives bring.StartUp
     where
       stored : (c : Level) → start_up_at c (accept s at) ≡ goes (accept s at) (course.start_up None c s) []
@@ -134,12 +134,12 @@ module _ (s : LevelControlState) (at : Micros) (on : Bool) where
       by None = stored s.current_level
 
   pub stop_gives : stopped (accept s at) ≡ gives s bring.Stops at on
-  unfolding stopped write_remaining_time next_state letters course.course accept with_task with_remaining_time level_or
+  unfolding stopped write_remaining_time next_state letters course.course level_or
   stop_gives = ap (λ (l : List Action). done (next_state s bring.Stops at) l) (sym (append-nil _))
 
   pub step_gives : (r : StepRequest) → is_missing s.current_level ≡ false → step_overflows s r ≡ false
       → stepped (accept s at) r at on ≡ gives s (Runs (step_target s.current_level s r)) at on
-  unfolding stepped stepped_level stepped_time step_overflows accept
+  unfolding stepped stepped_level stepped_time step_overflows
   step_gives r known fits = by s.current_level known fits
     where
       by : (l : Level) → is_missing l ≡ false → overflows_from l s r ≡ false → stepped_from l (accept s at) r at on ≡ gives s (Runs (step_target l s r)) at on
@@ -151,7 +151,7 @@ module _ (s : LevelControlState) (at : Micros) (on : Bool) where
       by None known fits = absurd (true≢false known)
 
   pub move_gives : (r : MoveRequest) → is_invalid (rate_by s r) ≡ false → begin_move (accept s at) r at on ≡ gives s (Runs (bring.Move r)) at on
-  unfolding begin_move at_limit rate_by move_period accept with_task reports_of
+  unfolding begin_move at_limit rate_by move_period reports_of
   move_gives r valid =
       ap (λ (b : Bool). cond b (done (accept s at) []) (move_at (rate_by (accept s at) r) (accept s at) r at on)) (limit r.mode s.current_level)
       ∙ by (course.at_limit r.mode s.current_level s.settings)
@@ -172,7 +172,7 @@ module _ (s : LevelControlState) (at : Micros) (on : Bool) where
           ∙ move_is (quiet (accept s at)) (course.course_of_move s r) at on s.current_level refl
 
   pub wake_gives : woken (accept s at) at on ≡ gives s (Runs bring.Wake) at on
-  unfolding woken fade_woken accept with_task reports_of fade_asking
+  unfolding woken fade_woken reports_of fade_asking
   wake_gives = by s.task ∙ command_gives bring.Wake
     where
       by : (x : Task) → woken_in x (accept s at) at on ≡ goes (accept s at) (course.wake x s at) (act_coupled (wake_couples x s on))
@@ -183,7 +183,7 @@ module _ (s : LevelControlState) (at : Micros) (on : Bool) where
       by (task.OnReaction r) = refl
 
   pub update_gives : (level : ℕ) → updated (accept s at) level at ≡ gives s (bring.Updates level) at on
-  unfolding updated set_level level_due current_level_due write_remaining_time next_state letters course.course accept with_task with_remaining_time with_answered level_or
+  unfolding updated set_level level_due current_level_due write_remaining_time next_state letters course.course level_or
   update_gives level =
       let changes : Bool → Bool → Reports =
       λ stored due. record {
@@ -201,9 +201,9 @@ module _ (s : LevelControlState) (at : Micros) (on : Bool) where
       ∙ told_letters (changes (changed s.current_level (Some level)) true) [])
 
   pub set_gives : (a : Attributes) → done (with_attributes (accept s at) a) (act K 0) ≡ gives s (bring.Sets a) at on
-  unfolding next_state letters course.course accept with_attributes level_or
+  unfolding next_state letters course.course level_or
   set_gives a = refl
 
   pub reset_gives : reset_all (accept s at) ≡ gives s bring.Resets at on
-  unfolding reset_all put_back next_state letters course.course accept level_or
+  unfolding reset_all put_back next_state letters course.course level_or
   reset_gives = refl

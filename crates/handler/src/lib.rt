@@ -4,12 +4,10 @@
 #![tactic(auto)]
 
 ghost use Rattle.std.specs.Prelude.{◌≡◌};
-ghost use Rattle.transitions.specs.Events.{event as event_at};
 ghost use Rattle.transitions.specs.Scene.{scene_of};
 ghost use Rattle.transitions.specs.declared.events.Command.TheVariants as command;
 ghost use Rattle.transitions.specs.declared.events.EventKind.TheVariants as kinds;
-ghost use Rattle.level_control.specs.Answer.{packed};
-ghost use Rattle.level_control.specs.Events.{event_of};
+ghost use Rattle.handler.specs.Answers.{command_answer, event_answer};
 
 use level_control::answer::Answer;
 use level_control::state::LevelControlState;
@@ -29,109 +27,109 @@ pub struct LevelControlHandler {
 
 impl LevelControlHandler {
     fn event(mut self, moment: Moment, kind: EventKind) -> Answer
-        ensures { result ≡ packed (event_of self.state (event_at moment.at moment.on_off kind)) }
+        ensures { result ≡ event_answer self.state moment kind }
     {
         self.state.event(Event { moment, kind })
     }
 
     fn command(mut self, moment: Moment, command: Command) -> Answer
-        ensures { result ≡ packed (event_of self.state (event_at moment.at moment.on_off (kinds.Command command))) }
+        ensures { result ≡ command_answer self.state moment command }
     {
         self.event(moment, EventKind::Command(command))
     }
 
     /// The device is asked for the start-up level.
     pub fn startup(mut self, moment: Moment) -> Answer
-        ensures { result ≡ packed (event_of self.state (event_at moment.at moment.on_off kinds.StartUp)) }
+        ensures { result ≡ event_answer self.state moment kinds.StartUp }
     {
         self.event(moment, EventKind::StartUp)
     }
 
     pub fn move_to_level(mut self, moment: Moment, request: MoveToLevelRequest) -> Answer
-        ensures { result ≡ packed (event_of self.state (event_at moment.at moment.on_off (kinds.Command (command.MoveToLevel request)))) }
+        ensures { result ≡ command_answer self.state moment (command.MoveToLevel request) }
     {
         self.command(moment, Command::MoveToLevel(request))
     }
 
     pub fn move_command(mut self, moment: Moment, request: MoveRequest) -> Answer
-        ensures { result ≡ packed (event_of self.state (event_at moment.at moment.on_off (kinds.Command (command.Move request)))) }
+        ensures { result ≡ command_answer self.state moment (command.Move request) }
     {
         self.command(moment, Command::Move(request))
     }
 
     pub fn step(mut self, moment: Moment, request: StepRequest) -> Answer
-        ensures { result ≡ packed (event_of self.state (event_at moment.at moment.on_off (kinds.Command (command.Step request)))) }
+        ensures { result ≡ command_answer self.state moment (command.Step request) }
     {
         self.command(moment, Command::Step(request))
     }
 
     pub fn stop(mut self, moment: Moment, options: CommandOptions) -> Answer
-        ensures { result ≡ packed (event_of self.state (event_at moment.at moment.on_off (kinds.Command (command.Stop options)))) }
+        ensures { result ≡ command_answer self.state moment (command.Stop options) }
     {
         self.command(moment, Command::Stop(options))
     }
 
     /// The device's answer to the open request.
     pub fn answer(mut self, moment: Moment, answer: DeviceAnswer) -> Answer
-        ensures { result ≡ packed (event_of self.state (event_at moment.at moment.on_off (kinds.Answer answer))) }
+        ensures { result ≡ event_answer self.state moment (kinds.Answer answer) }
     {
         self.event(moment, EventKind::Answer(answer))
     }
 
     /// The end of a wait: the source's timer.
     pub fn wake(mut self, moment: Moment) -> Answer
-        ensures { result ≡ packed (event_of self.state (event_at moment.at moment.on_off kinds.Wake)) }
+        ensures { result ≡ event_answer self.state moment kinds.Wake }
     {
         self.event(moment, EventKind::Wake)
     }
 
     pub fn handle_on_off_state_change(mut self, moment: Moment, on: bool) -> Answer
-        ensures { result ≡ packed (event_of self.state (event_at moment.at moment.on_off (kinds.Command (command.OnOffChanged on)))) }
+        ensures { result ≡ command_answer self.state moment (command.OnOffChanged on) }
     {
         self.command(moment, Command::OnOffChanged(on))
     }
 
     /// A scene whose pairs were searched.
     pub fn recall(mut self, moment: Moment, request: SceneRequest) -> Answer
-        ensures { result ≡ packed (event_of self.state (event_at moment.at moment.on_off (kinds.Command (command.Scene request)))) }
+        ensures { result ≡ command_answer self.state moment (command.Scene request) }
     {
         self.command(moment, Command::Scene(request))
     }
 
     /// The source's OutOfBandMessage::Update.
     pub fn update(mut self, moment: Moment, level: u8) -> Answer
-        ensures { result ≡ packed (event_of self.state (event_at moment.at moment.on_off (kinds.Command (command.DeviceUpdate level)))) }
+        ensures { result ≡ command_answer self.state moment (command.DeviceUpdate level) }
     {
         self.command(moment, Command::DeviceUpdate(level))
     }
 
     /// The source's OutOfBandMessage::Stop.
     pub fn device_stop(mut self, moment: Moment) -> Answer
-        ensures { result ≡ packed (event_of self.state (event_at moment.at moment.on_off (kinds.Command command.DeviceStop))) }
+        ensures { result ≡ command_answer self.state moment command.DeviceStop }
     {
         self.command(moment, Command::DeviceStop)
     }
 
     pub fn set_on_level(mut self, moment: Moment, level: Level) -> Answer
-        ensures { result ≡ packed (event_of self.state (event_at moment.at moment.on_off (kinds.Command (command.SetOnLevel level)))) }
+        ensures { result ≡ command_answer self.state moment (command.SetOnLevel level) }
     {
         self.command(moment, Command::SetOnLevel(level))
     }
 
     pub fn set_default_move_rate(mut self, moment: Moment, rate: Rate) -> Answer
-        ensures { result ≡ packed (event_of self.state (event_at moment.at moment.on_off (kinds.Command (command.SetDefaultMoveRate rate)))) }
+        ensures { result ≡ command_answer self.state moment (command.SetDefaultMoveRate rate) }
     {
         self.command(moment, Command::SetDefaultMoveRate(rate))
     }
 
     pub fn set_start_up_current_level(mut self, moment: Moment, level: Level) -> Answer
-        ensures { result ≡ packed (event_of self.state (event_at moment.at moment.on_off (kinds.Command (command.SetStartUpCurrentLevel level)))) }
+        ensures { result ≡ command_answer self.state moment (command.SetStartUpCurrentLevel level) }
     {
         self.command(moment, Command::SetStartUpCurrentLevel(level))
     }
 
     pub fn factory_reset(mut self, moment: Moment) -> Answer
-        ensures { result ≡ packed (event_of self.state (event_at moment.at moment.on_off (kinds.Command command.FactoryReset))) }
+        ensures { result ≡ command_answer self.state moment command.FactoryReset }
     {
         self.command(moment, Command::FactoryReset)
     }
@@ -144,7 +142,7 @@ impl LevelControlHandler {
         values: &[u16],
         transition_time: Millis,
     ) -> Answer
-        ensures { result ≡ packed (event_of self.state (event_at moment.at moment.on_off (kinds.Command (command.Scene (scene_of ids.now values.now transition_time))))) }
+        ensures { result ≡ command_answer self.state moment (command.Scene (scene_of ids.now values.now transition_time)) }
     {
         let level = scene_level(ids, values);
         self.recall(

@@ -2,14 +2,12 @@
 #![tactic(auto)]
 
 use sheet::key::key_sheet;
+use sheet::play::ROOM;
 use std::io;
 use std::io::{Read, Write};
 
 /// One byte more than a play may have, so that a longer input is seen to be too long.
 const MOST_READ: usize = 5_121;
-
-/// Room for every sheet.
-const ROOM: usize = 48_195;
 
 fn main(rt: HostRuntime) -> io::Result<()> {
     let mut records = [0; MOST_READ];
@@ -17,9 +15,9 @@ fn main(rt: HostRuntime) -> io::Result<()> {
         &mut rt.reader().take(MOST_READ as u64),
         &mut &mut records[..],
     )?;
-    // No more than the room: nothing is cut, here and below.
+    // No more than the room: nothing is cut.
     let read = MOST_READ.min(read as usize);
     let mut sheet = [0; ROOM];
-    let length = ROOM.min(key_sheet(&records[..read], &mut sheet));
+    let length = key_sheet(&records[..read], &mut sheet);
     io::writer(&rt).write_all(&sheet[..length])
 }

@@ -130,10 +130,6 @@ missing_told true false k v = refl
 missing_told false true k v = refl
 missing_told false false k v = refl
 
-pub told_alone : (t : Bool) (k : ActionKind) → held_if t k [] ≡ act_if t k
-told_alone true k = refl
-told_alone false k = refl
-
 pub reports_few : (r : Reports) → length (reports_of r) ≤ 5
 unfolding reports_of
 reports_few r =
@@ -153,7 +149,7 @@ three_told false true = refl
 three_told false false = refl
 
 pub time_told : (p l t : Bool)
-    → held_if t R (reports_of (record { stored = p; scene = true; coupling = None; level = l; time = false }))
+    → reports_of (record { stored = p; scene = true; coupling = None; level = l; time = false }) ++ act_if t R
     ≡ reports_of (record { stored = p; scene = true; coupling = None; level = l; time = t })
 unfolding reports_of
 time_told true true true = refl

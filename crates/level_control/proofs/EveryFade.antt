@@ -25,7 +25,6 @@ use Rattle.transitions.specs.declared.tasks.Task.{Task}
 use Rattle.transitions.specs.declared.tasks.Task.TheVariants as task
 use Rattle.transitions.specs.Types.{Level}
 use Rattle.transitions.proofs.Booleans.{and_first, and_second}
-use Rattle.level_control.specs.State.{accept, with_task}
 use Rattle.level_control.specs.Answer.{Outcome}
 use Rattle.level_control.specs.Targets.{go_to}
 use Rattle.level_control.specs.Events.{number_of, event_of}
@@ -65,7 +64,7 @@ Seen c t T o = Inv c t T (asks o.actions) 0 o.state.remaining_time.0 (opened o.a
 
 go_to_holds : (told : Told) (r : FadeRequest) (at : Micros) (on : Bool) (c : ℕ) → told.state.current_level ≡ Some c → (c ≡ r.target → ⊥)
     → 1 ≤ r.transition_time.0 → Seen c r.target r.transition_time.0 (go_to told r at on)
-unfolding with_task fade_from
+unfolding fade_from
 go_to_holds told r at on c level ne pos =
     rw (go_to_starts told r at on c level ne, asks_after, opened_after)
     (first_holds c told.state.remaining_time.0 r at ne pos, refl)
@@ -144,7 +143,7 @@ accepted_zero s e h = sym (event_number s e) ∙ eqb-true (event_of s e).number 
 reacting_starts : (s : LevelControlState) (at₀ at : Micros) (on : Bool) (v c t T : ℕ) → on_start s v ≡ Fades c t T
     → number_of (reacting s at₀) (event at on (kind.Answer (device.Level v))) ≡ 0
     → Starting (event_of (reacting s at₀) (event at on (kind.Answer (device.Level v)))) at c t T
-unfolding on_start accept with_task
+unfolding on_start
 reacting_starts s at₀ at on v c t T named z =
     subst (λ (o : Outcome). Starting o at c t T) (sym (on_answered_is (reacting s at₀) (record { before = s.current_level }) at on v refl z))
     (on_starts (reacting s at₀) s.current_level at on v c t T (same s.attributes.on_level s.current_level ∙ named))

@@ -28,7 +28,7 @@ use Rattle.transitions.specs.declared.tasks.Phase.TheVariants.{Asked, Waiting}
 use Rattle.transitions.specs.declared.tasks.Task.{Task}
 use Rattle.transitions.specs.declared.tasks.Task.TheVariants as task
 use Rattle.transitions.specs.Types.{Level}
-use Rattle.level_control.specs.State.{accept, with_task, with_level, with_remaining_time}
+use Rattle.level_control.specs.State.{accept, with_task}
 use Rattle.transitions.specs.Actions.{reports_of}
 use Rattle.level_control.specs.Answer.{Outcome, done}
 use Rattle.level_control.specs.Reports.{write_remaining_time}
@@ -141,11 +141,10 @@ module _ (c t T : ℕ) (pos : 1 ≤ T) where
     silent : Silent o.actions
 
   ends_rest : (told : Told) → Ends told (done (with_task told.state task.Rest) (reports_of told.reports))
-  unfolding with_task
   ends_rest told = record { rests = refl; time = refl; silent = silent_reports told.reports }
 
   ends_restored : (told : Told) (before : ℕ) → Ends told (restored told before)
-  unfolding restored with_task with_level
+  unfolding restored
   ends_restored told before = record {
     rests = refl;
     time = refl;
@@ -171,7 +170,7 @@ module _ (c t T : ℕ) (pos : 1 ≤ T) where
   goes_on : (f : Fade) (since at : Micros) (told : Told) (asked : List ℕ) (k : ℕ)
       → Running c t T asked k told.state.remaining_time.0 f.target f.counter f.transition_time.0 (fade_left f).0 f.period.0 0
       → After asked k (fade_goes_on told f since at)
-  unfolding fade_goes_on fade_waiting fade_asking with_task
+  unfolding fade_goes_on fade_waiting fade_asking
   goes_on f since at told asked k h = by (fade_next f since at)
     where
       by : (n : Option Micros) → After asked k (fade_then n told f at)
@@ -190,7 +189,7 @@ module _ (c t T : ℕ) (pos : 1 ≤ T) where
   -- the remaining time that is written
   told_time : (s : LevelControlState) (f : Fade) (at : Micros) (on : Bool) (v : ℕ)
       → (fade_told s f at on v).state.remaining_time.0 ≡ shown_of (fade_left f).0
-  unfolding fade_told write_remaining_time with_remaining_time
+  unfolding fade_told write_remaining_time
   told_time s f at on v = refl
 
   module _ (small : T ≤ 65535) where
@@ -218,7 +217,7 @@ module _ (c t T : ℕ) (pos : 1 ≤ T) where
     wake_keeps : (s : LevelControlState) (f : Fade) (at : Micros) (asked : List ℕ) (k : ℕ)
         → Running c t T asked k s.remaining_time.0 f.target f.counter f.transition_time.0 f.remaining.0 f.period.0 0
         → After asked k (fade_woken s f at)
-    unfolding fade_woken fade_asking with_task
+    unfolding fade_woken fade_asking
     wake_keeps s f at asked k h = (ask f.transition_time h, refl)
 
     -- an accepted answer with a level, in any state where it holds
@@ -286,12 +285,12 @@ module _ (c t T : ℕ) (pos : 1 ≤ T) where
 
     pub answer_is : (s : LevelControlState) (at : Micros) (on : Bool) (v : ℕ) → number_of s (event at on (kind.Answer (device.Level v))) ≡ 0
         → event_of s (event at on (kind.Answer (device.Level v))) ≡ answered_in s.task (accept s at) (device.Level v) at on
-    unfolding command_tests_of run answered accept
+    unfolding command_tests_of run answered
     answer_is s at on v z = event_runs s (event at on (kind.Answer (device.Level v))) z refl
 
     pub wake_is : (s : LevelControlState) (at : Micros) (on : Bool) → number_of s (event at on kind.Wake) ≡ 0
         → event_of s (event at on kind.Wake) ≡ woken_in s.task (accept s at) at on
-    unfolding command_tests_of run woken accept
+    unfolding command_tests_of run woken
     wake_is s at on z = event_runs s (event at on kind.Wake) z refl
 
     is_open : (s : LevelControlState) (at : Micros) (on : Bool) (a : DeviceAnswer) → number_of s (event at on (kind.Answer a)) ≡ 0 → task_open s.task ≡ true
@@ -303,7 +302,6 @@ module _ (c t T : ℕ) (pos : 1 ≤ T) where
     is_due s at on z = not-false (task_due s.task at) (turn_passes _ _ z).due
 
     same_time : (s : LevelControlState) (at : Micros) → (accept s at).remaining_time ≡ s.remaining_time
-    unfolding accept
     same_time s at = refl
 
     keep_answer : (r : Run) (at : Micros) (on : Bool) (v : ℕ) → number_of r.state (event at on (kind.Answer (device.Level v))) ≡ 0

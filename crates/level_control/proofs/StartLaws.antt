@@ -36,7 +36,7 @@ use Rattle.transitions.specs.declared.types.OptionsBitmap.{OptionsBitmap}
 use Rattle.transitions.specs.Types.{Time}
 use Rattle.transitions.proofs.Booleans.{and_first, and_second}
 use Rattle.transitions.proofs.MatterLaws.{matter_agrees}
-use Rattle.level_control.specs.State.{accept, with_task, with_answered}
+use Rattle.level_control.specs.State.{accept, with_task}
 use Rattle.transitions.specs.Actions.{reports_of}
 use Rattle.level_control.specs.Answer.{Outcome, done}
 use Rattle.level_control.specs.Reports.{continues, set_level, told_level}
@@ -149,7 +149,7 @@ go_to_starts told r at on c e ne = rw (e, ne_eqb c r.target ne) refl
 -- and where none is named there is none: the task ends
 pub go_to_rests : (told : Told) (r : FadeRequest) (at : Micros) (on : Bool) (T : ℕ) → start_from told.state.current_level r.target T ≡ NoFade
     → (go_to told r at on).state.task ≡ task.Rest
-unfolding go_to begin_fade with_task
+unfolding go_to begin_fade
 go_to_rests told r at on T e = by told.state.current_level e
   where
     go : (c : ℕ) (b : Bool) → cond b NoFade (Fades c r.target T) ≡ NoFade
@@ -176,7 +176,7 @@ pub record Starting (o : Outcome) (at : Micros) (c t T : ℕ) : Type 0 where
 module _ (s : LevelControlState) (at : Micros) (on : Bool) (c t T : ℕ) where
   move_to_level_starts : (r : MoveToLevelRequest) → number_of s (event at on (kind.Command (command.MoveToLevel r))) ≡ 0
       → start_of s on (kind.Command (command.MoveToLevel r)) ≡ Fades c t T → Starting (event_of s (event at on (kind.Command (command.MoveToLevel r)))) at c t T
-  unfolding start_of run moved_to_level accept command_tests_of move_to_level_tests
+  unfolding start_of run moved_to_level command_tests_of move_to_level_tests
   move_to_level_starts r z e =
       let lets = when_fades (leb 255 r.level || passes s r.options.with_on_off on r.options.options_mask r.options.options_override)
       (start_from s.current_level (target s r.level) (given_or r.transition_time 0)) c t T e in
@@ -196,7 +196,7 @@ module _ (s : LevelControlState) (at : Micros) (on : Bool) (c t T : ℕ) where
 
   off_starts : number_of s (event at on (kind.Command (command.OnOffChanged false))) ≡ 0
       → start_of s on (kind.Command (command.OnOffChanged false)) ≡ Fades c t T → Starting (event_of s (event at on (kind.Command (command.OnOffChanged false)))) at c t T
-  unfolding start_of run switched turned_off off_time accept command_tests_of
+  unfolding start_of run switched turned_off off_time command_tests_of
   off_starts z e =
       let from = from_fades _ _ _ c t T e in
       record {
@@ -213,7 +213,7 @@ module _ (s : LevelControlState) (at : Micros) (on : Bool) (c t T : ℕ) where
 
   scene_starts : (r : SceneRequest) → number_of s (event at on (kind.Command (command.Scene r))) ≡ 0
       → start_of s on (kind.Command (command.Scene r)) ≡ Fades c t T → Starting (event_of s (event at on (kind.Command (command.Scene r)))) at c t T
-  unfolding start_of run recalled accept command_tests_of scene_tests
+  unfolding start_of run recalled command_tests_of scene_tests
   scene_starts r z e = by r.level refl
     where
       none : OptionsBitmap
@@ -242,7 +242,7 @@ module _ (s : LevelControlState) (at : Micros) (on : Bool) (c t T : ℕ) where
 
   step_starts : (r : StepRequest) → number_of s (event at on (kind.Command (command.Step r))) ≡ 0
       → start_of s on (kind.Command (command.Step r)) ≡ Fades c t T → Starting (event_of s (event at on (kind.Command (command.Step r)))) at c t T
-  unfolding start_of run stepped accept command_tests_of step_tests number_of step_overflows stepped_time stepped_level
+  unfolding start_of run stepped command_tests_of step_tests number_of step_overflows stepped_time stepped_level
   step_starts r z e = by s.current_level refl
     where
       pass : Bool
@@ -303,7 +303,7 @@ reacting s at = with_task (accept s at) (task.OnReaction (record { before = s.cu
 
 pub on_is : (s : LevelControlState) (at : Micros) (on : Bool) → number_of s (event at on (kind.Command (command.OnOffChanged true))) ≡ 0
     → event_of s (event at on (kind.Command (command.OnOffChanged true))) ≡ done (reacting s at) (act D s.settings.range.min)
-unfolding run switched turned_on accept with_task command_tests_of
+unfolding run switched turned_on command_tests_of
 on_is s at on z = event_runs s (event at on (kind.Command (command.OnOffChanged true))) z refl
 
 -- a list of refused events leaves the state as it was
@@ -342,23 +342,23 @@ module _ (s : LevelControlState) (before : Level) (at : Micros) (on : Bool) (v :
   returns None None = inr (refl, refl)
 
   goes_to : (l : Level) → level_or s.attributes.on_level before ≡ l → on_answer ≡ on_to l told at on
-  unfolding on_goes_on told_level set_level with_answered accept
+  unfolding on_goes_on told_level set_level
   goes_to l q = ap (λ (x : Level). on_to x told at on) q
 
   told_level_known : told.state.current_level ≡ Some v
-  unfolding told_level set_level with_answered
+  unfolding told_level set_level
   told_level_known = refl
 
   told_last : told.state.last_accepted ≡ at
-  unfolding told_level set_level with_answered accept
+  unfolding told_level set_level
   told_last = refl
 
   on_target : (l : ℕ) → (on_request l).target ≡ target s l
-  unfolding told_level set_level with_answered accept
+  unfolding told_level set_level
   on_target l = target_is s l
 
   on_time_given : (on_time told.state).0 ≡ on_given
-  unfolding on_time told_level set_level with_answered accept
+  unfolding on_time told_level set_level
   on_time_given = given_is s.attributes.on_transition_time s.attributes.on_off_transition_time
 
   pub on_starts : (c t T : ℕ) → on_start_at s.attributes.on_level before s v ≡ Fades c t T → Starting on_answer at c t T
@@ -384,7 +384,6 @@ module _ (s : LevelControlState) (before : Level) (at : Micros) (on : Bool) (v :
 
   -- and where no fade is named, the task ends
   pub on_rests : on_start_at s.attributes.on_level before s v ≡ NoFade → on_answer.state.task ≡ task.Rest
-  unfolding with_task
   on_rests e = by (returns s.attributes.on_level before)
     where
       by : ((l : ℕ) × (level_or s.attributes.on_level before ≡ Some l) × (on_start_at s.attributes.on_level before s v ≡ to_level l))
@@ -402,7 +401,7 @@ module _ (s : LevelControlState) (before : Level) (at : Micros) (on : Bool) (v :
 pub on_answered_is : (s : LevelControlState) (r : OnReaction) (at : Micros) (on : Bool) (v : ℕ) → s.task ≡ task.OnReaction r
     → number_of s (event at on (kind.Answer (device.Level v))) ≡ 0
     → event_of s (event at on (kind.Answer (device.Level v))) ≡ on_answer s r.before at on v
-unfolding run answered on_answered accept command_tests_of
+unfolding run answered on_answered command_tests_of
 on_answered_is s r at on v q z =
     event_runs s (event at on (kind.Answer (device.Level v))) z refl
     ∙ ap (λ (x : Task). answered_in x (accept s at) (device.Level v) at on) q

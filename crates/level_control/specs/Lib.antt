@@ -1,5 +1,6 @@
 pub mod State
 pub mod Answer
+pub mod Errors
 pub mod Reports
 pub mod Targets
 pub mod Fades

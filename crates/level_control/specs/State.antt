@@ -35,26 +35,26 @@ put_back s = record s {
 }
 
 -- an event at a time is accepted
-unfoldable pub accept : LevelControlState → Micros → LevelControlState
+abbrev pub accept : LevelControlState → Micros → LevelControlState
 accept s at = record s { last_accepted = at; started = true }
 
-unfoldable pub with_task : LevelControlState → Task → LevelControlState
+abbrev pub with_task : LevelControlState → Task → LevelControlState
 with_task s task = record s { task = task }
 
-unfoldable pub with_level : LevelControlState → Level → LevelControlState
+abbrev pub with_level : LevelControlState → Level → LevelControlState
 with_level s level = record s { current_level = level }
 
-unfoldable pub with_previous_level : LevelControlState → Level → LevelControlState
+abbrev pub with_previous_level : LevelControlState → Level → LevelControlState
 with_previous_level s level = record s { previous_current_level = level }
 
-unfoldable pub with_attributes : LevelControlState → Attributes → LevelControlState
+abbrev pub with_attributes : LevelControlState → Attributes → LevelControlState
 with_attributes s attributes = record s { attributes = attributes }
 
-unfoldable pub with_remaining_time : LevelControlState → Tenths → LevelControlState
+abbrev pub with_remaining_time : LevelControlState → Tenths → LevelControlState
 with_remaining_time s time = record s { remaining_time = time }
 
 -- a level that was answered at a time; `noticed` is the last-report time
-unfoldable pub with_answered : LevelControlState → Level → Micros → LevelControlState
+abbrev pub with_answered : LevelControlState → Level → Micros → LevelControlState
 with_answered s level noticed = record s {
   current_level = level;
   previous_current_level = s.current_level;

@@ -5,7 +5,7 @@ ghost use Rattle.std.specs.Prelude.{◌≡◌};
 ghost use Rattle.level_control.specs.Answer.{answer_of};
 
 use crate::state::LevelControlState;
-use transitions::actions::{Action, ActionKind, Actions};
+use transitions::actions::{Action, Actions, FREE};
 use transitions::causes::Refusal;
 
 /// The actions stand in an array, beside the number filled: the slots from `count` on hold X with value 0.
@@ -24,10 +24,7 @@ impl Answer {
     {
         let list = list.as_slice();
         let count = list.len();
-        let mut actions = [Action {
-            kind: ActionKind::X,
-            value: 0,
-        }; 7];
+        let mut actions = [FREE; 7];
         actions[..count].copy_from_slice(list);
         Answer {
             refusal,

@@ -1,11 +1,13 @@
 //! Judging an event: the first cause that refuses it, or what it is to do.
 //! Derived from level_control.rs of project-chip/rs-matter 43f61585a4 (see NOTICE), and changed.
-ghost use Rattle.std.specs.Prelude.{◌≡◌, IfErr, IfOk, OnOk};
+ghost use Rattle.std.specs.Prelude.{◌≡◌, IfErr, IfOk, OnOk, not, ◌&&◌};
 ghost use Rattle.transitions.specs.Causes.{refusal_number};
+ghost use Rattle.transitions.specs.Commands.{consults_options};
 ghost use Rattle.level_control.specs.Causes.{command_tests_by, level_judged, move_tests, move_to_level_tests, scene_tests, step_tests, tests_number};
 ghost use Rattle.level_control.specs.Course.{follow, unless_stopped};
 ghost use Rattle.level_control.specs.Events.{event_of, number_of, run_command};
 ghost use Rattle.level_control.specs.Moves.{begin_move};
+ghost use Rattle.level_control.specs.Reports.{continues};
 ghost use Rattle.level_control.specs.State.{accept};
 ghost use Rattle.level_control.specs.Targets.{moved_to_level, recalled, stepped};
 
@@ -51,7 +53,7 @@ pub(crate) enum Course {
 }
 
 impl LevelControlState {
-    #[tactic(auto, unfolding(crate::specs::Events::event_of, crate::specs::Events::number_of, crate::specs::Events::run, crate::specs::Events::answered, crate::specs::Events::woken, crate::specs::Causes::turn_tests, crate::specs::Causes::time_refused, crate::specs::Causes::command_tests_of, crate::specs::State::accept, transitions::specs::Causes::first_cause))]
+    #[tactic(auto, unfolding(crate::specs::Events::event_of, crate::specs::Events::number_of, crate::specs::Events::run, crate::specs::Events::answered, crate::specs::Events::woken, crate::specs::Causes::turn_tests, crate::specs::Causes::time_refused, crate::specs::Causes::command_tests_of, transitions::specs::Causes::first_cause))]
     pub(crate) fn judge(&self, event: Event) -> Result<Course, Refusal>
         ensures refused { IfErr result (λ cause. refusal_number cause ≡ number_of self.now event) }
         ensures accepted { OnOk result (number_of self.now event ≡ 0) }
@@ -78,7 +80,7 @@ impl LevelControlState {
         }
     }
 
-    #[tactic(auto, unfolding(crate::specs::Causes::move_to_level_tests, crate::specs::Causes::scene_tests, crate::specs::Causes::stop_tests, crate::specs::Causes::level_tests, crate::specs::Causes::rate_tests, crate::specs::Reactions::switched, crate::specs::Reactions::turned_off, crate::specs::Reactions::off_time, crate::specs::Rest::on_level_set, crate::specs::Rest::default_move_rate_set, crate::specs::Rest::start_up_current_level_set, crate::specs::State::with_attributes, crate::specs::State::accept, transitions::specs::Causes::first_cause))]
+    #[tactic(auto, unfolding(crate::specs::Causes::move_to_level_tests, crate::specs::Causes::scene_tests, crate::specs::Causes::stop_tests, crate::specs::Causes::level_tests, crate::specs::Causes::rate_tests, crate::specs::Reactions::switched, crate::specs::Reactions::turned_off, crate::specs::Reactions::off_time, crate::specs::Rest::on_level_set, crate::specs::Rest::default_move_rate_set, crate::specs::Rest::start_up_current_level_set, transitions::specs::Causes::first_cause))]
     fn judge_command(&self, command: Command, moment: Moment) -> Result<Course, Refusal>
         ensures refused { IfErr result (λ cause. refusal_number cause ≡ tests_number (command_tests_by self.now moment.on_off command)) }
         ensures accepted { OnOk result (tests_number (command_tests_by self.now moment.on_off command) ≡ 0) }
@@ -121,14 +123,18 @@ impl LevelControlState {
         }
     }
 
-    /// Of a target of 255 the options are not looked at.
-    #[tactic(auto, unfolding(crate::specs::Causes::move_to_level_tests, crate::specs::Targets::moved_to_level, crate::specs::State::accept, transitions::specs::Types::time_or))]
+    /// Whether the options stop a command to a level: of 255 they are not looked at.
+    fn is_stopped(&self, level: u8, options: CommandOptions, moment: Moment) -> bool
+        ensures { result ≡ (consults_options level && not (continues self.now options.with_on_off moment.on_off options.options_mask options.options_override)) }
+    {
+        consults_options(level) && !self.should_continue(options, moment.on_off)
+    }
+
+    #[tactic(auto, unfolding(crate::specs::Causes::move_to_level_tests, crate::specs::Targets::moved_to_level, transitions::specs::Types::time_or))]
     fn judge_move_to_level(&self, request: MoveToLevelRequest, moment: Moment) -> Course
         ensures { follow (accept self.now moment.at) result moment.at moment.on_off ≡ unless_stopped (move_to_level_tests self.now moment.on_off request) (accept self.now moment.at) (moved_to_level (accept self.now moment.at) request moment.at moment.on_off) }
     {
-        if consults_options(request.level)
-            && !self.should_continue(request.options, moment.on_off)
-        {
+        if self.is_stopped(request.level, request.options, moment) {
             return Course::Nothing;
         }
         let time = request.transition_time.unwrap_or(Tenths(0));
@@ -136,14 +142,14 @@ impl LevelControlState {
     }
 
     /// A scene without a value is not stopped, and does nothing.
-    #[tactic(auto, unfolding(crate::specs::Causes::scene_tests, crate::specs::Targets::recalled, crate::specs::State::accept))]
+    #[tactic(auto, unfolding(crate::specs::Causes::scene_tests, crate::specs::Targets::recalled))]
     fn judge_scene(&self, request: SceneRequest, moment: Moment) -> Course
         ensures { follow (accept self.now moment.at) result moment.at moment.on_off ≡ unless_stopped (scene_tests self.now moment.on_off request) (accept self.now moment.at) (recalled (accept self.now moment.at) request moment.at moment.on_off) }
     {
         let Some(level) = request.level else {
             return Course::Nothing;
         };
-        if consults_options(level) && !self.should_continue(SCENE, moment.on_off) {
+        if self.is_stopped(level, SCENE, moment) {
             return Course::Nothing;
         }
         let time = request.transition_time.to_tenths_floor_saturating();
@@ -154,7 +160,7 @@ impl LevelControlState {
     }
 
     /// At its limit nothing happens, and a running task goes on.
-    #[tactic(auto, unfolding(crate::specs::Causes::move_tests, crate::specs::Moves::rate_by, crate::specs::Moves::begin_move, crate::specs::State::accept, transitions::specs::Causes::first_cause))]
+    #[tactic(auto, unfolding(crate::specs::Causes::move_tests, crate::specs::Moves::rate_by, crate::specs::Moves::begin_move, transitions::specs::Causes::first_cause))]
     fn judge_move(&self, request: MoveRequest, moment: Moment) -> Result<Course, Refusal>
         ensures refused { IfErr result (λ cause. refusal_number cause ≡ tests_number (move_tests self.now moment.on_off request)) }
         ensures accepted { OnOk result (tests_number (move_tests self.now moment.on_off request) ≡ 0) }
@@ -177,7 +183,7 @@ impl LevelControlState {
     }
 
     /// Its level is a target like any other; its time goes by the size that came out.
-    #[tactic(auto, unfolding(crate::specs::Causes::step_tests, crate::specs::Causes::step_overflows, crate::specs::Targets::stepped, crate::specs::Targets::stepped_level, crate::specs::Targets::stepped_time, crate::specs::State::accept, transitions::specs::Causes::first_cause))]
+    #[tactic(auto, unfolding(crate::specs::Causes::step_tests, crate::specs::Causes::step_overflows, crate::specs::Targets::stepped, crate::specs::Targets::stepped_level, crate::specs::Targets::stepped_time, transitions::specs::Causes::first_cause))]
     fn judge_step(&self, request: StepRequest, moment: Moment) -> Result<Course, Refusal>
         ensures refused { IfErr result (λ cause. refusal_number cause ≡ tests_number (step_tests self.now moment.on_off request)) }
         ensures accepted { OnOk result (tests_number (step_tests self.now moment.on_off request) ≡ 0) }

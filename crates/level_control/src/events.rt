@@ -38,7 +38,7 @@ impl LevelControlState {
         Ok(())
     }
 
-    #[tactic(auto, unfolding(crate::specs::State::with_attributes, crate::specs::Rest::reset_all))]
+    #[tactic(auto, unfolding(crate::specs::Rest::reset_all))]
     fn follow(&mut self, course: Course, moment: Moment, actions: &mut Actions)
         requires { actions.old ≡ [] }
         ensures { done self.new actions.new ≡ follow self.old course moment.at moment.on_off }

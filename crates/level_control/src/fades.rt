@@ -6,15 +6,13 @@ ghost use Rattle.level_control.specs.Fades.{asked, device_failed, fade_answered,
 ghost use Rattle.level_control.specs.Reports.{outcome_told};
 ghost use Rattle.level_control.specs.Targets.{quiet};
 
+use crate::errors::ErrorCode;
 use crate::state::LevelControlState;
 use transitions::actions::{ActionKind, Actions};
 use transitions::events::DeviceAnswer;
 use transitions::tasks::{Fade, Task, level_to_restore};
 use transitions::types::Moment;
 use units::Micros;
-
-/// The number of E where the device failed or has no level, and where on has nothing to return to.
-pub(crate) const DEVICE_FAILED: u64 = 15;
 
 impl LevelControlState {
     /// Coupling at the start and the end of a fade.
@@ -68,27 +66,25 @@ impl LevelControlState {
     }
 
     /// The device answered that it has no level: the fade fails, and what was to be restored is not.
-    #[tactic(auto, using(crate::proofs::ActionLaws::missing_told), unfolding(crate::specs::Fades::fade_missing, crate::specs::State::with_task, transitions::specs::Types::same_level))]
+    #[tactic(auto, using(crate::proofs::ActionLaws::missing_told), unfolding(crate::specs::Fades::fade_missing, transitions::specs::Types::same_level))]
     fn fade_missing(&mut self, fade: Fade, now: Micros, actions: &mut Actions)
         requires { actions.old ≡ [] }
         ensures { done self.new actions.new ≡ fade_missing self.old fade now }
     {
         let stored = self.set_level(None, now, fade.is_last());
-        self.task = Task::Rest;
         actions.push_if(stored.changed, ActionKind::P);
         actions.push_if(!fade.scene_apply, ActionKind::S);
-        actions.push(ActionKind::E, DEVICE_FAILED);
+        self.fails(ErrorCode::Failure, actions);
     }
 
     /// A failed device ends the task, and changes nothing else but the noted previous level.
-    #[tactic(auto, unfolding(crate::specs::Fades::device_failed, crate::specs::State::with_task, crate::specs::State::with_previous_level))]
+    #[tactic(auto, unfolding(crate::specs::Fades::device_failed))]
     pub(crate) fn device_failed(&mut self, actions: &mut Actions)
         requires { actions.old ≡ [] }
         ensures { done self.new actions.new ≡ device_failed self.old }
     {
         self.previous_current_level = self.current_level;
-        self.task = Task::Rest;
-        actions.push(ActionKind::E, DEVICE_FAILED);
+        self.fails(ErrorCode::Failure, actions);
     }
 
     #[tactic(auto, unfolding(crate::specs::Fades::fade_answered))]
@@ -113,7 +109,7 @@ impl LevelControlState {
     }
 
     /// The wait is over: the next request.
-    #[tactic(auto, unfolding(crate::specs::Fades::fade_woken, crate::specs::State::with_task))]
+    #[tactic(auto, unfolding(crate::specs::Fades::fade_woken))]
     pub(crate) fn fade_woken(&mut self, fade: Fade, now: Micros, actions: &mut Actions)
         requires { actions.old ≡ [] }
         ensures { done self.new actions.new ≡ fade_woken self.old fade now }
@@ -122,7 +118,7 @@ impl LevelControlState {
     }
 
     /// A fade whose request is made now.
-    #[tactic(auto, using(crate::proofs::ActionLaws::pushed), unfolding(crate::specs::State::with_task))]
+    #[tactic(auto, using(crate::proofs::ActionLaws::pushed))]
     pub(crate) fn ask(&mut self, fade: Fade, actions: &mut Actions)
         requires { length actions.old ≤ 5 }
         ensures { done self.new actions.new ≡ after actions.old (asked self.old fade) }
@@ -132,7 +128,7 @@ impl LevelControlState {
     }
 
     /// The end of a fade. The off reaction's puts the level before back, without the device: P if it changes, and L.
-    #[tactic(auto, using(crate::proofs::ActionLaws::if_then), unfolding(crate::specs::Fades::fade_ended, crate::specs::Fades::restored, crate::specs::State::with_task, crate::specs::State::with_level, transitions::specs::Actions::reports_of))]
+    #[tactic(auto, using(crate::proofs::ActionLaws::if_then), unfolding(crate::specs::Fades::fade_ended, crate::specs::Fades::restored, transitions::specs::Actions::reports_of))]
     fn fade_ended(&mut self, restores: Option<u8>, actions: &mut Actions)
         requires { length actions.old ≤ 5 }
         ensures { done self.new actions.new ≡ after actions.old (fade_ended (quiet self.old) restores) }
@@ -147,7 +143,7 @@ impl LevelControlState {
     }
 
     /// Before the end: the rest of the period is waited for, or the next request is made at once.
-    #[tactic(auto, using(crate::proofs::ActionLaws::pushed), unfolding(crate::specs::Fades::fade_goes_on, crate::specs::State::with_task, transitions::specs::Actions::reports_of))]
+    #[tactic(auto, using(crate::proofs::ActionLaws::pushed), unfolding(crate::specs::Fades::fade_goes_on, transitions::specs::Actions::reports_of))]
     fn fade_goes_on(&mut self, fade: Fade, since: Micros, now: Micros, actions: &mut Actions)
         requires { length actions.old ≤ 5 }
         ensures { done self.new actions.new ≡ after actions.old (fade_goes_on (quiet self.old) fade since now) }

@@ -5,6 +5,7 @@
 
 pub mod answer;
 mod causes;
+mod errors;
 pub mod events;
 mod fades;
 mod moves;

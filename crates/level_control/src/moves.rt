@@ -5,9 +5,8 @@ ghost use Rattle.level_control.specs.Answer.{after, done};
 ghost use Rattle.level_control.specs.Moves.{leaves_min, move_answered, move_ends, move_goes_on, move_missing, move_then, move_transition};
 ghost use Rattle.level_control.specs.Targets.{quiet};
 
-use crate::fades::DEVICE_FAILED;
+use crate::errors::ErrorCode;
 use crate::state::LevelControlState;
-use crate::targets::LEVEL_MISSING;
 use transitions::actions::{ActionKind, Actions};
 use transitions::events::DeviceAnswer;
 use transitions::fade::wait_or_ask;
@@ -37,7 +36,7 @@ impl LevelControlState {
     }
 
     /// The device answered a level. C at the end follows L.
-    #[tactic(auto, using(crate::proofs::ActionLaws::pushed_coupling, crate::proofs::ActionLaws::move_then_after), unfolding(crate::specs::Moves::move_transition, crate::specs::State::with_task))]
+    #[tactic(auto, using(crate::proofs::ActionLaws::pushed_coupling, crate::proofs::ActionLaws::move_then_after), unfolding(crate::specs::Moves::move_transition))]
     fn move_transition(
         &mut self,
         moving: Move,
@@ -62,14 +61,13 @@ impl LevelControlState {
     }
 
     /// A missing answer in a move, or to the on reaction's request for MIN: P, S, L, E.
-    #[tactic(auto, using(crate::proofs::ActionLaws::pushed), unfolding(crate::specs::Moves::move_missing, crate::specs::State::with_task))]
+    #[tactic(auto, using(crate::proofs::ActionLaws::pushed), unfolding(crate::specs::Moves::move_missing))]
     pub(crate) fn move_missing(&mut self, is_end: bool, now: Micros, actions: &mut Actions)
         requires { actions.old ≡ [] }
         ensures { done self.new actions.new ≡ move_missing self.old is_end now }
     {
         self.told_level(None, now, is_end, actions);
-        self.task = Task::Rest;
-        actions.push(ActionKind::E, DEVICE_FAILED);
+        self.fails(ErrorCode::Failure, actions);
     }
 
     #[tactic(auto, unfolding(crate::specs::Moves::move_answered))]
@@ -98,16 +96,13 @@ impl LevelControlState {
     }
 
     /// The next request of a move, from the stored level.
-    #[tactic(auto, using(crate::proofs::ActionLaws::pushed, crate::proofs::ActionLaws::coupled_then), unfolding(crate::specs::Moves::move_goes_on, crate::specs::State::with_task, transitions::specs::Actions::reports_of))]
+    #[tactic(auto, using(crate::proofs::ActionLaws::pushed, crate::proofs::ActionLaws::coupled_then), unfolding(crate::specs::Moves::move_goes_on, transitions::specs::Actions::reports_of))]
     pub(crate) fn move_goes_on(&mut self, course: MoveCourse, moment: Moment, actions: &mut Actions)
         requires { length actions.old ≤ 5 }
         ensures { done self.new actions.new ≡ after actions.old (move_goes_on (quiet self.old) course moment.at moment.on_off) }
     {
         match next_move(self.current_level, course.mode) {
-            MoveStep::Lost => {
-                self.task = Task::Rest;
-                actions.push(ActionKind::E, LEVEL_MISSING);
-            }
+            MoveStep::Lost => self.fails(ErrorCode::InvalidInState, actions),
             MoveStep::Ends => self.task = Task::Rest,
             MoveStep::Asks(asked) => {
                 let coupling = self.leaves_min(asked, course.with_on_off, moment.on_off);
@@ -119,7 +114,7 @@ impl LevelControlState {
     }
 
     /// After an answer before the end: wait, or ask at once.
-    #[tactic(auto, using(crate::proofs::ActionLaws::pushed), unfolding(crate::specs::Moves::move_then, crate::specs::State::with_task, transitions::specs::Actions::reports_of))]
+    #[tactic(auto, using(crate::proofs::ActionLaws::pushed), unfolding(crate::specs::Moves::move_then, transitions::specs::Actions::reports_of))]
     fn move_then(&mut self, moving: Move, since: Micros, moment: Moment, actions: &mut Actions)
         requires { length actions.old ≤ 5 }
         ensures { done self.new actions.new ≡ after actions.old (move_then (quiet self.old) moving since moment.at moment.on_off) }

@@ -26,7 +26,7 @@ pub(crate) struct Stored {
 
 impl LevelControlState {
     /// Says whether the time is to be reported.
-    #[tactic(auto, unfolding(crate::specs::Reports::write_remaining_time, crate::specs::State::with_remaining_time))]
+    #[tactic(auto, unfolding(crate::specs::Reports::write_remaining_time))]
     pub(crate) fn write_remaining_time_quietly(
         &mut self,
         remaining_time: Millis,
@@ -40,7 +40,7 @@ impl LevelControlState {
     }
 
     /// Stores what the device answered.
-    #[tactic(auto, unfolding(transitions::specs::Types::same_level, crate::specs::Reports::set_level, crate::specs::Reports::level_due, crate::specs::State::with_answered))]
+    #[tactic(auto, unfolding(transitions::specs::Types::same_level, crate::specs::Reports::set_level, crate::specs::Reports::level_due))]
     pub(crate) fn set_level(
         &mut self,
         level: Level,

@@ -9,7 +9,7 @@ use transitions::actions::{ActionKind, Actions};
 use transitions::events::DeviceAnswer;
 use transitions::tasks::Task;
 use transitions::types::Level;
-use units::{Micros, Millis};
+use units::Micros;
 
 impl LevelControlState {
     /// The start-up level within MIN..MAX, else the stored one as it is.
@@ -23,7 +23,7 @@ impl LevelControlState {
         }
     }
 
-    #[tactic(auto, unfolding(crate::specs::Rest::started_up, crate::specs::State::with_task))]
+    #[tactic(auto, unfolding(crate::specs::Rest::started_up))]
     pub(crate) fn started_up(&mut self, actions: &mut Actions)
         requires { actions.old ≡ [] }
         ensures { done self.new actions.new ≡ started_up self.old }
@@ -35,7 +35,7 @@ impl LevelControlState {
     }
 
     /// An answer to start-up is stored, and told by P at most.
-    #[tactic(auto, unfolding(transitions::specs::Types::same_level, crate::specs::Rest::stored_start_up, crate::specs::State::with_task, crate::specs::State::with_level))]
+    #[tactic(auto, unfolding(transitions::specs::Types::same_level, crate::specs::Rest::stored_start_up))]
     fn stored_start_up(&mut self, level: Level, actions: &mut Actions)
         requires { actions.old ≡ [] }
         ensures { done self.new actions.new ≡ stored_start_up self.old level }
@@ -45,7 +45,7 @@ impl LevelControlState {
         self.task = Task::Rest;
     }
 
-    #[tactic(auto, unfolding(crate::specs::Rest::start_up_answered, crate::specs::State::with_task))]
+    #[tactic(auto, unfolding(crate::specs::Rest::start_up_answered))]
     pub(crate) fn start_up_answered(&mut self, answer: DeviceAnswer, actions: &mut Actions)
         requires { actions.old ≡ [] }
         ensures { done self.new actions.new ≡ start_up_answered self.old answer }
@@ -58,14 +58,12 @@ impl LevelControlState {
     }
 
     /// The device's level changed under us. It counts as an end.
-    #[tactic(auto, using(crate::proofs::ActionLaws::time_told), unfolding(crate::specs::Rest::updated, crate::specs::Reports::told_level, crate::specs::State::with_task, transitions::specs::Types::same_level))]
+    #[tactic(auto, using(crate::proofs::ActionLaws::time_told), unfolding(crate::specs::Rest::updated, crate::specs::Targets::stopped, crate::specs::Reports::told_level, transitions::specs::Types::same_level))]
     pub(crate) fn updated(&mut self, level: u8, now: Micros, actions: &mut Actions)
         requires { actions.old ≡ [] }
         ensures { done self.new actions.new ≡ updated self.old level now }
     {
         self.told_level(Some(level), now, true, actions);
-        let time_due = self.write_remaining_time_quietly(Millis(0), false);
-        actions.push_if(time_due, ActionKind::R);
-        self.task = Task::Rest;
+        self.stopped(actions);
     }
 }

@@ -55,7 +55,7 @@ impl LevelControlState {
         };
     }
 
-    #[tactic(auto, unfolding(crate::specs::State::accept))]
+    #[tactic(auto)]
     pub(crate) fn accept(&mut self, at: Micros)
         ensures { self.new ≡ accept self.old at }
     {

@@ -1,18 +1,16 @@
 //! A move to a target, by a command, a step, a scene or a reaction; and stop.
 //! Derived from level_control.rs of project-chip/rs-matter 43f61585a4 (see NOTICE), and changed.
-ghost use Rattle.std.specs.Prelude.{◌≡◌, [], ◌≤◌, false, length};
+ghost use Rattle.std.specs.Prelude.{◌≡◌, ◌≤◌, false, length};
 ghost use Rattle.level_control.specs.Answer.{after, done};
 ghost use Rattle.level_control.specs.Targets.{go_to, quiet, request_to, stopped};
 
+use crate::errors::ErrorCode;
 use crate::state::LevelControlState;
 use transitions::actions::{ActionKind, Actions};
 use transitions::commands::target_level;
 use transitions::tasks::{Begin, FadeRequest, Task, begin_fade};
 use transitions::types::Moment;
 use units::{Millis, Tenths};
-
-/// The number of E where there is no level to fade or move from.
-pub(crate) const LEVEL_MISSING: u64 = 11;
 
 impl LevelControlState {
     /// A fade to a level under the rules for targets: a command's, with or without on/off.
@@ -34,7 +32,7 @@ impl LevelControlState {
     }
 
     /// Ends the running task; then the target is reached, or there is no level to fade from, or a fade starts.
-    #[tactic(auto, using(crate::proofs::ActionLaws::pushed), unfolding(crate::specs::Targets::go_to, crate::specs::State::with_task, transitions::specs::Actions::reports_of))]
+    #[tactic(auto, using(crate::proofs::ActionLaws::pushed), unfolding(crate::specs::Targets::go_to, transitions::specs::Actions::reports_of))]
     pub(crate) fn go_to(&mut self, request: FadeRequest, moment: Moment, actions: &mut Actions)
         requires { length actions.old ≤ 5 }
         ensures { done self.new actions.new ≡ after actions.old (go_to (quiet self.old) request moment.at moment.on_off) }
@@ -51,19 +49,16 @@ impl LevelControlState {
                 let restored = request.restores & self.attributes.on_level.is_none();
                 actions.push_if(restored, ActionKind::L);
             }
-            Begin::Lost => {
-                self.task = Task::Rest;
-                actions.push(ActionKind::E, LEVEL_MISSING);
-            }
+            Begin::Lost => self.fails(ErrorCode::InvalidInState, actions),
             Begin::Starts(fade) => self.ask(fade, actions),
         }
     }
 
     /// The task ends, and the remaining time 0 is written, not as a start.
-    #[tactic(auto, using(crate::proofs::ActionLaws::told_alone), unfolding(crate::specs::Targets::stopped, crate::specs::Reports::write_remaining_time, crate::specs::State::with_remaining_time, crate::specs::State::with_task))]
+    #[tactic(auto, using(crate::proofs::ActionLaws::pushed_if), unfolding(crate::specs::Targets::stopped, crate::specs::Reports::write_remaining_time))]
     pub(crate) fn stopped(&mut self, actions: &mut Actions)
-        requires { actions.old ≡ [] }
-        ensures { done self.new actions.new ≡ stopped self.old }
+        requires { length actions.old ≤ 5 }
+        ensures { done self.new actions.new ≡ after actions.old (stopped self.old) }
     {
         self.task = Task::Rest;
         let due = self.write_remaining_time_quietly(Millis(0), false);

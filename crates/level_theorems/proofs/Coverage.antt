@@ -24,7 +24,7 @@ use Rattle.transitions.specs.declared.tasks.Task.{Task}
 use Rattle.transitions.specs.declared.tasks.Task.TheVariants as task
 use Rattle.transitions.specs.Types.{Level}
 use Rattle.transitions.specs.declared.types.OptionsBitmap.{OptionsBitmap}
-use Rattle.level_control.specs.State.{accept, with_task, with_attributes, put_back}
+use Rattle.level_control.specs.State.{accept, put_back}
 use Rattle.level_control.specs.Reports.{continues}
 use Rattle.level_control.specs.Targets.{quiet, moved_to_level, stepped_level, stepped_time, stepped_by, stepped_from, stepped, recalled_at, recalled, stopped}
 use Rattle.level_control.specs.Moves.{move_missing}
@@ -70,7 +70,7 @@ module _ (s : LevelControlState) (at : Micros) (on : Bool) where
 
   move_to_level_none : (r : MoveToLevelRequest) → stopped_in s (event at on (kind.Command (command.MoveToLevel r))) ≡ false → start_of s on (kind.Command (command.MoveToLevel r)) ≡ NoFade
       → Runs (kind.Command (command.MoveToLevel r))
-  unfolding start_of run moved_to_level accept command_tests_of move_to_level_tests
+  unfolding start_of run moved_to_level command_tests_of move_to_level_tests
   move_to_level_none r free e =
       let pass = passed r.level (continues s r.options.with_on_off on r.options.options_mask r.options.options_override) free in
       let none = when_none (leb 255 r.level || passes s r.options.with_on_off on r.options.options_mask r.options.options_override)
@@ -81,14 +81,14 @@ module _ (s : LevelControlState) (at : Micros) (on : Bool) where
       (ap (λ (x : ℕ). start_from s.current_level x (given_or r.transition_time 0)) (target_is s r.level) ∙ none))
 
   off_none : start_of s on (kind.Command (command.OnOffChanged false)) ≡ NoFade → Runs (kind.Command (command.OnOffChanged false))
-  unfolding start_of run switched turned_off accept
+  unfolding start_of run switched turned_off
   off_none e =
       let time : ℕ = given_or s.attributes.off_transition_time s.attributes.on_off_transition_time.0 in
       rests (Reacts (kind.Command (command.OnOffChanged false))) s.task false _
       (go_to_rests _ _ at on time (ap (λ (x : ℕ). start_from s.current_level x time) (target_is s s.settings.range.min) ∙ e))
 
   scene_none : (r : SceneRequest) → stopped_in s (event at on (kind.Command (command.Scene r))) ≡ false → start_of s on (kind.Command (command.Scene r)) ≡ NoFade → Runs (kind.Command (command.Scene r))
-  unfolding start_of run recalled accept command_tests_of scene_tests
+  unfolding start_of run recalled command_tests_of scene_tests
   scene_none r free e = by r.level free e
     where
       bits : OptionsBitmap
@@ -107,7 +107,7 @@ module _ (s : LevelControlState) (at : Micros) (on : Bool) where
       by None free e = stays refl
 
   step_none : (r : StepRequest) → stopped_in s (event at on (kind.Command (command.Step r))) ≡ false → start_of s on (kind.Command (command.Step r)) ≡ NoFade → Runs (kind.Command (command.Step r))
-  unfolding start_of run stepped accept command_tests_of step_tests stepped_level
+  unfolding start_of run stepped command_tests_of step_tests stepped_level
   step_none r free e = by s.current_level refl none
     where
       pass : passes s r.options.with_on_off on r.options.options_mask r.options.options_override ≡ true
@@ -137,7 +137,7 @@ module _ (s : LevelControlState) (at : Micros) (on : Bool) where
   answer_none : (a : DeviceAnswer) (x : Task)
       → ((r : OnReaction) (v : ℕ) → x ≡ task.OnReaction r → kind.Answer a ≡ kind.Answer (device.Level v) → on_start_at s.attributes.on_level r.before s v ≡ NoFade)
       → s.task ≡ x → Becomes (Reacts (kind.Answer a)) x (with_level a) (answered_in x (accept s at) a at on).state.task
-  unfolding accept on_answered move_missing device_failed with_task
+  unfolding on_answered move_missing device_failed
   answer_none a task.Rest n q = stays q
   answer_none a task.StartUp n q = start_up_answered_goes (Reacts (kind.Answer a)) task.StartUp (with_level a) (accept s at) a
   answer_none a (task.Fade f) n q = by f.phase
@@ -156,7 +156,6 @@ module _ (s : LevelControlState) (at : Micros) (on : Bool) where
   answer_none device.Failed (task.OnReaction r) n q = plain (Reacts (kind.Answer device.Failed)) (task.OnReaction r) false task.Rest refl
 
   wake_none : (x : Task) → s.task ≡ x → Becomes (Reacts kind.Wake) x true (woken_in x (accept s at) at on).state.task
-  unfolding accept
   wake_none task.Rest q = stays q
   wake_none task.StartUp q = stays q
   wake_none (task.Fade f) q = fade_woken_goes (Reacts kind.Wake) (accept s at) f at
@@ -164,7 +163,7 @@ module _ (s : LevelControlState) (at : Micros) (on : Bool) where
   wake_none (task.OnReaction r) q = stays q
 
   pub runs_none : (k : EventKind) → stopped_in s (event at on k) ≡ false → NoneNamed s (event at on k) → Runs k
-  unfolding run started_up accept with_task with_attributes put_back stopped switched turned_on answered woken updated on_level_set default_move_rate_set start_up_current_level_set reset_all
+  unfolding run started_up put_back stopped switched turned_on answered woken updated on_level_set default_move_rate_set start_up_current_level_set reset_all
   runs_none kind.StartUp free n = by (start_up_level (accept s at))
     where
       by : (l : Level) → Becomes (Reacts kind.StartUp) s.task false (start_up_at l (accept s at)).state.task

@@ -1,7 +1,8 @@
 -- Every event, proved. Assumes nothing.
 use Prim.Native.Nat.{ℕ, ◌≤◌}
-use lib.ListN.{length}
-use mathlib.Core.Bool.{Bool, true, false, true≢false}
+use Rattle.std.specs.Prelude.{Option}
+use lib.ListN.{length, take}
+use mathlib.Core.Bool.{Bool, true, false, cond, true≢false}
 use mathlib.Core.Path.{◌≡◌, refl, sym, ap, subst, ◌∙◌}
 use mathlib.Core.Logic.{◌↔◌, ◌⊎◌}
 use mathlib.Core.List.{List, [], ◌∷◌, ◌++◌}
@@ -10,24 +11,25 @@ use borrow.Author.Tests.{eqb-true, eqb-false, ltb-false}
 use lib.Dec.{eqb}
 use Rattle.units.specs.Units.{before, micros}
 use Rattle.units.specs.declared.Micros.{Micros}
-use Rattle.transitions.specs.Causes.{Row, rows, first_cause}
+use Rattle.transitions.specs.Causes.{Row, rows, first_cause, event_tests, TurnTests, CommandTests}
 use Rattle.transitions.specs.Events.{action, act}
 use Rattle.transitions.specs.Search.{NoneOf, First}
 use Rattle.transitions.specs.declared.actions.Action.{Action}
 use Rattle.transitions.specs.declared.actions.ActionKind.TheVariants.{W, X}
+use Rattle.transitions.specs.declared.causes.Refusal.{Refusal}
 use Rattle.transitions.specs.declared.events.Event.{Event}
 use Rattle.transitions.specs.declared.events.EventKind.{EventKind}
 use Rattle.transitions.specs.declared.events.EventKind.TheVariants as kind
 use Rattle.transitions.specs.declared.tasks.Phase.TheVariants.{Waiting}
 use Rattle.transitions.proofs.RuleLaws.{rule_laws}
-use Rattle.level_control.specs.Answer.{Outcome, done, refused}
+use Rattle.level_control.specs.Answer.{Outcome, done, refused, packed, answer_of, refusal_of}
 use Rattle.level_control.specs.Causes.{time_refused, turn_tests, command_tests_of}
 use Rattle.level_control.specs.Events.{run, number_of, event_of}
 use Rattle.level_control.specs.Rest.{reset_all}
 use Rattle.level_control.specs.State.{new_state, put_back, accept}
 use Rattle.level_theorems.specs.Orders.{kinds_of, OneOf, orders}
 use Rattle.level_theorems.specs.EveryEvent as claim
-use Rattle.level_theorems.specs.EveryEvent.{LevelFrom, AttributesFrom, unchanged, by_set_on_level, by_set_default_move_rate, by_set_start_up, by_factory_reset, InPhase, WaitAfter, EveryEvent, tests_of}
+use Rattle.level_theorems.specs.EveryEvent.{LevelFrom, AttributesFrom, unchanged, by_set_on_level, by_set_default_move_rate, by_set_start_up, by_factory_reset, InPhase, WaitAfter, EveryEvent, tests_of, number_shown}
 use Rattle.level_control.specs.declared.state.LevelControlState.{LevelControlState}
 use Rattle.level_control.proofs.AnswerLaws.{unpacked}
 use Rattle.level_control.proofs.EventLaws.{stopped_in, event_refused, event_stopped, event_runs, event_number, turn_passes}
@@ -96,7 +98,7 @@ is_in_time s e z =
 
 -- an accepted event's time is the last accepted
 accepted_time : (s : LevelControlState) (e : Event) → number_of s e ≡ 0 → (event_of s e).state.last_accepted ≡ e.moment.at
-unfolding accept next_state
+unfolding next_state
 accepted_time s e z = three_ways s e (λ (o : Outcome). o.state.last_accepted ≡ e.moment.at) (λ h. absurd (h z)) (λ h. refl) refl
 
 time_never_falls : (s : LevelControlState) (e : Event) → s.last_accepted.0 ≤ (event_of s e).state.last_accepted.0
@@ -107,16 +109,16 @@ time_never_falls s e = go (eqb (number_of s e) 0) refl
     go false p = rw (event_refused s e (eqb-false (number_of s e) 0 p)) (omega arith)
 
 level_comes_from : (s : LevelControlState) (e : Event) → LevelFrom s e.kind (event_of s e).state.current_level
-unfolding accept next_state
+unfolding next_state
 level_comes_from s e =
     three_ways s e (λ (o : Outcome). LevelFrom s e.kind o.state.current_level) (λ h. claim.kept) (λ h. claim.kept) (level_from s e.kind)
 
 settings_stay : (s : LevelControlState) (e : Event) → (event_of s e).state.settings ≡ s.settings
-unfolding accept next_state
+unfolding next_state
 settings_stay s e = three_ways s e (λ (o : Outcome). o.state.settings ≡ s.settings) (λ h. refl) (λ h. refl) refl
 
 attributes_come_from : (s : LevelControlState) (e : Event) → AttributesFrom s e.kind (event_of s e).state.attributes
-unfolding accept next_state
+unfolding next_state
 attributes_come_from s e =
     three_ways s e (λ (o : Outcome). AttributesFrom s e.kind o.state.attributes) (λ h. unchanged) (λ h. unchanged) (attributes_from s e.kind)
 
@@ -154,8 +156,41 @@ wait_after_request s e u earlier others h = by (event_waited s e)
 at_most_seven : (s : LevelControlState) (e : Event) → length (event_of s e).actions ≤ 7
 at_most_seven s e = at_most_seven_of (orders s.task e.kind) (event_of s e).actions (action_order s e) (orders_shape s.task e.kind).few
 
+slots_hold : (refusal : Option Refusal) (s : LevelControlState) (l : List Action) → length l ≤ 7
+    → take (answer_of refusal s l).count (answer_of refusal s l).actions ≡ l
+unfolding packed answer_of
+slots_hold refusal s l = unpacked (record { number = 0; state = s; actions = l })
+
+-- A cause has a refusal that shows its number, and so has the first of several.
+abbrev Shows : ℕ → Type 0
+Shows n = number_shown (refusal_of n) ≡ n
+
+row_shows : (b : Bool) (n others : ℕ) → Shows n → Shows others → Shows (cond b n others)
+row_shows true n others p q = p
+row_shows false n others p q = q
+
+cause_shows : (turn : TurnTests) (c : CommandTests) → Shows (first_cause (event_tests turn c))
+unfolding first_cause
+cause_shows turn c =
+    row_shows turn.time_refused 5 _ refl
+    (row_shows turn.answer_open 6 _ refl
+    (row_shows turn.no_answer_open 7 _ refl
+    (row_shows turn.wake_refused 8 _ refl
+    (row_shows turn.start_up_late 9 _ refl
+    (row_shows c.invalid_command 10 _ refl
+    (row_shows c.stopped_by_options 0 _ refl
+    (row_shows c.invalid_in_state 11 _ refl
+    (row_shows c.product_too_large 12 _ refl
+    (row_shows c.level_outside 13 _ refl
+    (row_shows c.rate_0 14 0 refl refl))))))))))
+
+refusal_shows_number : (s : LevelControlState) (e : Event) → number_shown (packed (event_of s e)).refusal ≡ (event_of s e).number
+unfolding packed answer_of number_of
+refusal_shows_number s e =
+    subst Shows (sym (event_number s e)) (cause_shows (turn_tests s e.moment.at e.kind) (command_tests_of s e.moment.on_off e.kind))
+
 pub every_event : EveryEvent
-unfolding accept new_state put_back
+unfolding new_state put_back
 every_event = record {
   refused_keeps = refused_keeps;
   first_cause_is_first = first_cause_is_first;
@@ -164,6 +199,8 @@ every_event = record {
       (ap (λ (o : Outcome). o.number) same, ap (λ (o : Outcome). o.actions) same, ap (λ (o : Outcome). o.state) same);
   at_most_seven = at_most_seven;
   slots_are_actions = λ s e. unpacked (event_of s e) (at_most_seven s e);
+  slots_hold = slots_hold;
+  refusal_shows_number = refusal_shows_number;
   action_order = action_order;
   reset = λ s e k z.
       let same = reset_is s e k (sym (event_number s e) ∙ z) in

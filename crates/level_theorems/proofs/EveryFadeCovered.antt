@@ -12,7 +12,6 @@ use Rattle.transitions.specs.declared.events.EventKind.TheVariants as kind
 use Rattle.transitions.specs.declared.tasks.OnReaction.{OnReaction}
 use Rattle.transitions.specs.declared.tasks.Task.{Task}
 use Rattle.transitions.specs.declared.tasks.Task.TheVariants as task
-use Rattle.level_control.specs.State.{accept, with_task}
 use Rattle.level_control.specs.Answer.{Outcome}
 use Rattle.level_control.specs.Events.{number_of, event_of}
 use Rattle.level_control.specs.Run.{count_answer, is_onward}
@@ -42,7 +41,6 @@ covers R s e s' n (stays q) = by s.task refl
     by (task.OnReaction r) p = no_fade n (λ f z. let u : ◌≡◌ {A = ℕ} 0 1 = cc in omega arith)
 
 pub begins : (o : Outcome) (at : Micros) (c t T : ℕ) → Starting o at c t T → Begins c t T at o.state
-unfolding with_task
 begins o at c t T w = record {
   request = w.request;
   target = w.target;
@@ -89,7 +87,6 @@ module _ (s : LevelControlState) (at : Micros) (on : Bool) where
   -- where none is named
   none_starts : (k : EventKind) → number_of s (event at on k) ≡ 0 → NoneNamed s (event at on k)
       → Covered s (event at on k) (event_of s (event at on k)).state
-  unfolding accept
   none_starts k z n = by (stopped_in s (event at on k)) refl
     where
       by : (b : Bool) → stopped_in s (event at on k) ≡ b → Covered s (event at on k) (event_of s (event at on k)).state

@@ -21,7 +21,7 @@ use Rattle.transitions.specs.declared.tasks.MoveStep.TheVariants as step
 use Rattle.transitions.specs.declared.tasks.Task.{Task}
 use Rattle.transitions.specs.declared.tasks.Task.TheVariants as task
 use Rattle.transitions.proofs.Booleans.{and_first, and_second}
-use Rattle.level_control.specs.State.{accept, with_task}
+use Rattle.level_control.specs.State.{accept}
 use Rattle.level_control.specs.Targets.{quiet}
 use Rattle.level_control.specs.Fades.{fade_woken}
 use Rattle.level_control.specs.Moves.{move_by, move_goes_on}
@@ -42,7 +42,7 @@ use Rattle.transitions.specs.declared.events.Command.TheVariants as command
 
 -- a wake does not write the remaining time, whatever waits for it
 woken_time : (s : LevelControlState) (at : Micros) (on : Bool) → (woken s at on).state.remaining_time ≡ s.remaining_time
-unfolding woken fade_woken move_goes_on with_task
+unfolding woken fade_woken move_goes_on
 woken_time s at on = by s.task
   where
     move : (m : MoveCourse) (n : MoveStep) → (move_by n (quiet s) m at on).state.remaining_time ≡ s.remaining_time
@@ -62,7 +62,7 @@ Quiet m r = r.answers ≡ 0 → r.state.remaining_time ≡ m
 
 module _ (m : Tenths) where
   quiet_wake : (r : Run) (at : Micros) (on : Bool) → number_of r.state (event at on kind.Wake) ≡ 0 → Quiet m r → Quiet m (next r (event at on kind.Wake))
-  unfolding command_tests_of run accept
+  unfolding command_tests_of run
   quiet_wake r at on z h =
       let e : Event = event at on kind.Wake in
       let s : LevelControlState = accept r.state at in

@@ -42,9 +42,6 @@ end_left_out q end = none q
 end_left_out q (takes g) = takes (end_left_out q g)
 end_left_out q (leaves g) = leaves (end_left_out q g)
 
-pub without : {p : List ActionKind} {l : List Action} (q : List ActionKind) → Fits p l → Fits (p ++ q) l
-without q h = record { kinds = end_left_out q h.kinds }
-
 pub one : (k : ActionKind) (v : ℕ) → Fits (k ∷ []) (act k v)
 one k v = record { kinds = takes end }
 

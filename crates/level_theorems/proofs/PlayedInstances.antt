@@ -16,7 +16,7 @@ use Rattle.transitions.specs.Options.{should_continue}
 use Rattle.transitions.specs.RemainingTime.{remaining_time_due}
 use Rattle.transitions.specs.Tasks.{fade_asking, fade_waiting, fade_from, level_to_restore, begin_fade}
 use Rattle.transitions.specs.Types.{same_level, level_or, time_or}
-use Rattle.level_control.specs.State.{new_state, accept, with_task, with_level, with_remaining_time, with_answered}
+use Rattle.level_control.specs.State.{new_state}
 use Rattle.transitions.specs.Actions.{reports_of}
 use Rattle.level_control.specs.Answer.{Outcome}
 use Rattle.level_control.specs.Reports.{write_remaining_time, level_due, set_level, told_level, coupled_by, continues}
@@ -52,11 +52,11 @@ row o c t asked w ne onward asks numbers late n time = record {
 }
 
 pub instances : Instances
-unfolding accept answered begin_fade command_tests_of continues coupled_by coupled_on_off current_level_due event_of executes fade_answered fade_asking fade_coupling fade_ended fade_from level_to_restore fade_goes_on fade_period fade_stored fade_told fade_waiting fade_woken first_cause go_to is_transition_start level_due level_or level_tests move_to_level_tests move_to_level_transition moved_to_level new_state next next_level number_of off_time on_answered on_goes_on on_start on_time rate_in_force recalled remaining_after remaining_time_due reports_of restored run same_level scaled_floor scene_tests set_level should_continue start_of step_level step_overflows step_tests step_time stepped stepped_level stepped_time switched target_level time_or time_refused told_level turn_tests turned_off turned_on wait_or_ask with_answered with_level with_remaining_time with_task woken write_remaining_time
+unfolding answered begin_fade command_tests_of continues coupled_by coupled_on_off current_level_due event_of executes fade_answered fade_asking fade_coupling fade_ended fade_from level_to_restore fade_goes_on fade_period fade_stored fade_told fade_waiting fade_woken first_cause go_to is_transition_start level_due level_or level_tests move_to_level_tests move_to_level_transition moved_to_level new_state next next_level number_of off_time on_answered on_goes_on on_start on_time rate_in_force recalled remaining_after remaining_time_due reports_of restored run same_level scaled_floor scene_tests set_level should_continue start_of step_level step_overflows step_tests step_time stepped stepped_level stepped_time switched target_level time_or time_refused told_level turn_tests turned_off turned_on wait_or_ask woken write_remaining_time
 instances = record {
-  event1 = row _ 10 13 _ (directly (new_state (lamp 10)) move_to13 10 13 3 refl refl) (λ e. omega arith) refl refl refl refl refl refl;
-  event3 = row _ 10 13 _ (directly (new_state (lamp 10)) step_by3 10 13 3 refl refl) (λ e. omega arith) refl refl refl refl refl refl;
-  event7_off = row _ 4 1 _ (directly (new_state (lamp 4)) off 4 1 3 refl refl) (λ e. omega arith) refl refl refl refl refl refl;
-  event7_on = row _ 2 5 _ (after_on (new_state (lamp 10)) on answer2 between 2 2 5 3 refl refl refl refl refl refl) (λ e. omega arith) refl refl refl refl refl refl;
-  event8 = row _ 10 13 _ (directly (new_state (lamp 10)) scene_of13 10 13 3 refl refl) (λ e. omega arith) refl refl refl refl refl refl;
+  by_move_to_level = row _ 10 13 _ (directly (new_state (lamp 10)) move_to13 10 13 3 refl refl) (λ e. omega arith) refl refl refl refl refl refl;
+  by_step = row _ 10 13 _ (directly (new_state (lamp 10)) step_by3 10 13 3 refl refl) (λ e. omega arith) refl refl refl refl refl refl;
+  by_off = row _ 4 1 _ (directly (new_state (lamp 4)) off 4 1 3 refl refl) (λ e. omega arith) refl refl refl refl refl refl;
+  by_on = row _ 2 5 _ (after_on (new_state (lamp 10)) on answer2 between 2 2 5 3 refl refl refl refl refl refl) (λ e. omega arith) refl refl refl refl refl refl;
+  by_scene = row _ 10 13 _ (directly (new_state (lamp 10)) scene_of13 10 13 3 refl refl) (λ e. omega arith) refl refl refl refl refl refl;
 }

@@ -20,7 +20,7 @@ use Rattle.transitions.specs.declared.tasks.Phase.TheVariants.{Asked, Waiting}
 use Rattle.transitions.specs.declared.tasks.Task.{Task}
 use Rattle.transitions.specs.declared.tasks.Task.TheVariants as task
 use Rattle.transitions.proofs.Booleans.{and_first, and_second, and_both, or_second}
-use Rattle.level_control.specs.State.{accept, with_task}
+use Rattle.level_control.specs.State.{accept}
 use Rattle.level_control.specs.Answer.{Outcome}
 use Rattle.level_control.specs.Causes.{latest}
 use Rattle.level_control.specs.Fades.{fade_woken}
@@ -52,7 +52,7 @@ next_answers r e h = rw h refl
 -- after the wake that ends a wait, a request is open
 pub wake_opens : (s : LevelControlState) (f : Fade) (at : Micros) (on : Bool) → s.task ≡ task.Fade f → number_of s (event at on kind.Wake) ≡ 0
     → task_open (event_of s (event at on kind.Wake)).state.task ≡ true
-unfolding fade_woken fade_asking with_task
+unfolding fade_woken fade_asking
 wake_opens s f at on q z =
     ap (λ (o : Outcome). task_open o.state.task) (wake_is 0 0 1 (omega arith) (omega arith) s at on z)
     ∙ ap (λ (x : Task). task_open (woken_in x (accept s at) at on).state.task) q

@@ -13,7 +13,7 @@ use Rattle.transitions.specs.declared.events.EventKind.TheVariants as kind
 use Rattle.transitions.specs.declared.tasks.OnReaction.{OnReaction}
 use Rattle.transitions.specs.declared.tasks.Task.{Task}
 use Rattle.transitions.specs.declared.tasks.Task.TheVariants as task
-use Rattle.level_control.specs.State.{accept, with_task}
+use Rattle.level_control.specs.State.{accept}
 use Rattle.level_control.specs.Answer.{Outcome}
 use Rattle.level_control.specs.Fades.{device_failed}
 use Rattle.level_control.specs.Moves.{move_missing}
@@ -66,7 +66,7 @@ module _ (s : LevelControlState) (at : Micros) (on : Bool) where
   -- any answer ends the reaction
   answer_ends : (b : OnReaction) (a : DeviceAnswer) → s.task ≡ task.OnReaction b → number_of s (event at on (kind.Answer a)) ≡ 0
       → is_reaction (after (kind.Answer a)) ≡ false
-  unfolding command_tests_of run answered accept on_answered move_missing device_failed with_task
+  unfolding command_tests_of run answered on_answered move_missing device_failed
   answer_ends b (device.Level v) q z =
       ap (λ (o : Outcome). is_reaction o.state.task) (on_answered_is s b at on v q z) ∙ by (on_start_at s.attributes.on_level b.before s v) refl
     where
@@ -92,7 +92,6 @@ module _ (s : LevelControlState) (at : Micros) (on : Bool) where
   becomes k y r e no-reaction (stays q) = absurd (true≢false (sym (ap is_reaction (sym q ∙ e)) ∙ no-reaction))
 
   fresh : (k : EventKind) (r : OnReaction) → number_of s (event at on k) ≡ 0 → is_reaction s.task ≡ false → after k ≡ task.OnReaction r → Reacts s at on k r
-  unfolding accept
   fresh k r z no-reaction e = by (start_of s on k) refl (stopped_in s (event at on k)) refl
     where
       by : (x : Start) → start_of s on k ≡ x → (b : Bool) → stopped_in s (event at on k) ≡ b → Reacts s at on k r

@@ -17,7 +17,7 @@ use Rattle.transitions.specs.declared.tasks.Begin.{Begin}
 use Rattle.transitions.specs.declared.tasks.Begin.TheVariants as begin
 use Rattle.transitions.specs.declared.tasks.FadeRequest.{FadeRequest}
 use Rattle.transitions.specs.Types.{Level}
-use Rattle.level_control.specs.State.{accept, with_task, with_answered}
+use Rattle.level_control.specs.State.{accept}
 use Rattle.level_control.specs.Answer.{Outcome}
 use Rattle.level_control.specs.Reports.{set_level, told_level}
 use Rattle.level_control.specs.Targets.{go_to_by, go_to, moved_to_level, stepped_time, stepped_by, stepped_from, stepped, recalled_at, recalled}
@@ -39,7 +39,7 @@ use Rattle.transitions.specs.declared.events.Command.TheVariants as command
 -- What does not write the remaining time.
 
 go_to_time : (t : Told) (r : FadeRequest) (at : Micros) (on : Bool) → (go_to t r at on).state.remaining_time ≡ t.state.remaining_time
-unfolding go_to with_task
+unfolding go_to
 go_to_time t r at on = by (begin_fade t.state.current_level r at)
   where
     by : (b : Begin) → (go_to_by b t r on).state.remaining_time ≡ t.state.remaining_time
@@ -62,7 +62,7 @@ stepped_time_keeps s r at on = by s.current_level
 -- an event that starts a fade
 run_time : (s : LevelControlState) (at : Micros) (on : Bool) (c t T : ℕ) (k : EventKind) → start_of s on k ≡ Fades c t T
     → (run (accept s at) k at on).state.remaining_time ≡ s.remaining_time
-unfolding start_of run moved_to_level recalled switched turned_off accept
+unfolding start_of run moved_to_level recalled switched turned_off
 run_time s at on c t T kind.StartUp e = no_fade c t T e
 run_time s at on c t T (kind.Command (command.MoveToLevel r)) e = go_to_time _ _ at on
 run_time s at on c t T (kind.Command (command.Move r)) e = no_fade c t T e
@@ -86,7 +86,6 @@ run_time s at on c t T (kind.Command command.FactoryReset) e = no_fade c t T e
 
 direct_time : (s : LevelControlState) (e : Event) (c t T : ℕ) → number_of s e ≡ 0 → start_of s e.moment.on_off e.kind ≡ Fades c t T
     → (event_of s e).state.remaining_time ≡ s.remaining_time
-unfolding accept
 direct_time s e c t T z named = by (stopped_in s e) refl
   where
     by : (b : Bool) → stopped_in s e ≡ b → (event_of s e).state.remaining_time ≡ s.remaining_time
@@ -98,7 +97,7 @@ direct_time s e c t T z named = by (stopped_in s e) refl
 -- the answer to the on reaction's request
 on_answer_time : (s : LevelControlState) (before : Level) (at : Micros) (on : Bool) (v : ℕ)
     → (on_answer s before at on v).state.remaining_time ≡ s.remaining_time
-unfolding on_goes_on told_level set_level with_answered accept with_task
+unfolding on_goes_on told_level set_level
 on_answer_time s before at on v = by (level_or s.attributes.on_level before)
   where
     told : Told
@@ -112,7 +111,6 @@ after_on_time : (s : LevelControlState) (at₀ : Micros) (on₀ : Bool) (k : Eve
     → accepted s (event at₀ on₀ k) ≡ true → k ≡ kind.Command (command.OnOffChanged true) → all_refused (event_of s (event at₀ on₀ k)).state es ≡ true
     → accepted (state_after (event_of s (event at₀ on₀ k)).state es) (event at on a) ≡ true → a ≡ kind.Answer (device.Level v)
     → (event_of (state_after (event_of s (event at₀ on₀ k)).state es) (event at on a)).state.remaining_time ≡ s.remaining_time
-unfolding accept with_task
 after_on_time s at₀ on₀ k es at on a v ok q refusals answered r =
     let ok' : accepted s (event at₀ on₀ (kind.Command (command.OnOffChanged true))) ≡ true = subst (λ (x : EventKind). accepted s (event at₀ on₀ x) ≡ true) q ok in
     let first : (event_of s (event at₀ on₀ k)).state ≡ reacting s at₀ =

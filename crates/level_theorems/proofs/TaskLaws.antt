@@ -18,7 +18,6 @@ use Rattle.transitions.specs.declared.tasks.OnReaction.{OnReaction}
 use Rattle.transitions.specs.declared.tasks.Task.{Task}
 use Rattle.transitions.specs.declared.tasks.Task.TheVariants as task
 use Rattle.transitions.specs.Types.{Level}
-use Rattle.level_control.specs.State.{with_task, with_level}
 use Rattle.level_control.specs.Answer.{Outcome}
 use Rattle.level_control.specs.Reports.{told_level}
 use Rattle.level_control.specs.Fades.{restored, fade_ended_by, fade_ended, fade_then, fade_goes_on, fade_told, move_to_level_transition, fade_missing, device_failed, fade_answered, fade_woken}
@@ -60,7 +59,7 @@ module _ (R : OnReaction → Type 0) (x : Task) (onward : Bool) where
   cond_goes false o p g h = h
 
   ended_goes : (t : Told) (after : Option ℕ) → To (fade_ended t after)
-  unfolding fade_ended restored with_task with_level
+  unfolding fade_ended restored
   ended_goes t after = by (level_to_restore after t.state.attributes.on_level)
     where
       by : (l : Level) → To (fade_ended_by l t)
@@ -68,7 +67,7 @@ module _ (R : OnReaction → Type 0) (x : Task) (onward : Bool) where
       by None = plain task.Rest refl
 
   pub move_goes : (t : Told) (m : MoveCourse) (at : Micros) (on : Bool) → To (move_goes_on t m at on)
-  unfolding move_goes_on with_task
+  unfolding move_goes_on
   move_goes t m at on = by (next_move t.state.current_level m.mode)
     where
       by : (n : MoveStep) → To (move_by n t m at on)
@@ -77,7 +76,7 @@ module _ (R : OnReaction → Type 0) (x : Task) (onward : Bool) where
       by (step.Asks asked) = plain _ refl
 
   move_then_goes : (t : Told) (m : Move) (since at : Micros) (on : Bool) → To (move_then t m since at on)
-  unfolding move_then with_task
+  unfolding move_then
   move_then_goes t m since at on = by (wait_or_ask since at m.course.period)
     where
       by : (n : Option Micros) → To (move_next n t m at on)
@@ -85,14 +84,14 @@ module _ (R : OnReaction → Type 0) (x : Task) (onward : Bool) where
       by None = move_goes t m.course at on
 
   pub move_answered_goes : (s : LevelControlState) (m : Move) (since at : Micros) (on : Bool) (a : DeviceAnswer) → To (move_answered s m since at on a)
-  unfolding move_answered move_transition move_missing device_failed with_task
+  unfolding move_answered move_transition move_missing device_failed
   move_answered_goes s m since at on (device.Level level) =
       cond_goes (move_ends s m.asked) _ _ (plain task.Rest refl) (move_then_goes (told_level s (Some level) at (move_ends s m.asked)) m since at on)
   move_answered_goes s m since at on device.Missing = plain task.Rest refl
   move_answered_goes s m since at on device.Failed = plain task.Rest refl
 
   pub start_up_answered_goes : (s : LevelControlState) (a : DeviceAnswer) → To (start_up_answered s a)
-  unfolding start_up_answered stored_start_up with_task
+  unfolding start_up_answered stored_start_up
   start_up_answered_goes s (device.Level level) = plain task.Rest refl
   start_up_answered_goes s device.Missing = plain task.Rest refl
   start_up_answered_goes s device.Failed = plain task.Rest refl
@@ -118,7 +117,7 @@ unfolding fade_waiting
 waiting f x until = record { with_on_off = refl; scene = refl; target = refl; time = refl; period = refl; after = refl }
 
 goes_on_goes : (R : OnReaction → Type 0) (t : Told) (f : Fade) (since at : Micros) → Becomes R (task.Fade f) true (fade_goes_on t f since at).state.task
-unfolding fade_goes_on with_task
+unfolding fade_goes_on
 goes_on_goes R t f since at = by (fade_next f since at)
   where
     by : (n : Option Micros) → Becomes R (task.Fade f) true (fade_then n t f at).state.task
@@ -127,7 +126,7 @@ goes_on_goes R t f since at = by (fade_next f since at)
 
 pub fade_answered_goes : (R : OnReaction → Type 0) (s : LevelControlState) (f : Fade) (since at : Micros) (on : Bool) (a : DeviceAnswer)
     → Becomes R (task.Fade f) (has_level a) (fade_answered s f since at on a).state.task
-unfolding fade_answered move_to_level_transition fade_missing device_failed with_task
+unfolding fade_answered move_to_level_transition fade_missing device_failed
 fade_answered_goes R s f since at on (device.Level level) =
     cond_goes R (task.Fade f) true (fade_last f) _ _ (ended_goes R (task.Fade f) true (fade_told s f at on level) f.after)
     (goes_on_goes R (fade_told s f at on level) f since at)
@@ -135,5 +134,5 @@ fade_answered_goes R s f since at on device.Missing = plain R (task.Fade f) fals
 fade_answered_goes R s f since at on device.Failed = plain R (task.Fade f) false task.Rest refl
 
 pub fade_woken_goes : (R : OnReaction → Type 0) (s : LevelControlState) (f : Fade) (at : Micros) → Becomes R (task.Fade f) true (fade_woken s f at).state.task
-unfolding fade_woken with_task
+unfolding fade_woken
 fade_woken_goes R s f at = further f _ refl refl (asking f _ at) refl

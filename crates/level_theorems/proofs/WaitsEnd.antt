@@ -22,7 +22,7 @@ use Rattle.transitions.specs.declared.tasks.Phase.TheVariants.{Asked, Waiting}
 use Rattle.transitions.specs.declared.tasks.Task.{Task}
 use Rattle.transitions.specs.declared.tasks.Task.TheVariants as task
 use Rattle.transitions.specs.Types.{Level}
-use Rattle.level_control.specs.State.{accept, with_task, with_level, with_remaining_time, with_answered}
+use Rattle.level_control.specs.State.{accept}
 use Rattle.level_control.specs.Answer.{Outcome}
 use Rattle.level_control.specs.Reports.{write_remaining_time, set_level}
 use Rattle.level_control.specs.Fades.{fade_stored, fade_told, restored, fade_ended_by, fade_ended, fade_then, fade_goes_on, move_to_level_transition, fade_answered, fade_woken}
@@ -58,7 +58,7 @@ abbrev pub Comes : Micros → LevelControlState → Type 0
 Comes at s = (s.last_accepted ≡ at) × Timed s.task at.0
 
 ended_comes : (t : Told) (after : Option ℕ) (at : Micros) → t.state.last_accepted ≡ at → Comes at (fade_ended t after).state
-unfolding fade_ended restored with_task with_level
+unfolding fade_ended restored
 ended_comes t after at q = by (level_to_restore after t.state.attributes.on_level)
   where
     by : (l : Level) → Comes at (fade_ended_by l t).state
@@ -66,7 +66,7 @@ ended_comes t after at q = by (level_to_restore after t.state.attributes.on_leve
     by None = (q, tt)
 
 goes_on_comes : (t : Told) (f : Fade) (since at : Micros) → since.0 ≤ at.0 → t.state.last_accepted ≡ at → Comes at (fade_goes_on t f since at).state
-unfolding fade_goes_on wait_or_ask fade_waiting fade_asking with_task
+unfolding fade_goes_on wait_or_ask fade_waiting fade_asking
 goes_on_comes t f since at le q = by (at_most (elapsed since at) (millis_to_micros f.period))
   where
     by : (b : Bool) → Comes at (fade_then (cond b (Some (later since (millis_to_micros f.period))) None) t f at).state
@@ -74,12 +74,12 @@ goes_on_comes t f since at le q = by (at_most (elapsed since at) (millis_to_micr
     by false = (q, omega arith)
 
 told_last : (s : LevelControlState) (f : Fade) (at : Micros) (on : Bool) (v : ℕ) → (fade_told s f at on v).state.last_accepted ≡ s.last_accepted
-unfolding fade_told fade_stored write_remaining_time set_level with_remaining_time with_answered
+unfolding fade_told fade_stored write_remaining_time set_level
 told_last s f at on v = refl
 
 answer_comes : (s : LevelControlState) (f : Fade) (since at : Micros) (on : Bool) (v : ℕ) → since.0 ≤ at.0
     → Comes at (move_to_level_transition (accept s at) f since at on v).state
-unfolding move_to_level_transition accept
+unfolding move_to_level_transition
 answer_comes s f since at on v le = by (fade_last f)
   where
     told : Told
@@ -90,7 +90,7 @@ answer_comes s f since at on v le = by (fade_last f)
     by false = goes_on_comes told f since at le (told_last (accept s at) f at on v)
 
 wake_comes : (s : LevelControlState) (f : Fade) (at : Micros) → Comes at (fade_woken (accept s at) f at).state
-unfolding fade_woken fade_asking accept with_task
+unfolding fade_woken fade_asking
 wake_comes s f at = (refl, omega arith)
 
 -- one event of a run
@@ -204,7 +204,7 @@ module _ (c t T : ℕ) (pos : 1 ≤ T) (small : T ≤ 65535) where
 
 -- a fade that starts
 start_timed : (o : Outcome) (at : Micros) (c t T : ℕ) → Starting o at c t T → Timed o.state.task o.state.last_accepted.0
-unfolding with_task fade_from
+unfolding fade_from
 start_timed o at c t T w =
     subst (λ (x : Outcome). Timed x.state.task x.state.last_accepted.0)
     (sym (w.outcome ∙ go_to_starts w.told w.request at w.on c w.level w.apart))

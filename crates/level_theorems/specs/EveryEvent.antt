@@ -1,8 +1,8 @@
 -- Every event: what it gives, in every state. No field has a hypothesis that it does not state.
-use Rattle.std.specs.Prelude.{ℕ, ◌≤◌, Bool, true, ◌≡◌, ◌↔◌, ◌⊎◌, List, [], ◌∷◌, ◌++◌, length, take, Some, None}
+use Rattle.std.specs.Prelude.{ℕ, ◌≤◌, Bool, true, ◌≡◌, ◌↔◌, ◌⊎◌, List, [], ◌∷◌, ◌++◌, length, take, Option, Some, None}
 use Rattle.units.specs.Units.{micros}
 use Rattle.units.specs.declared.Micros.{Micros}
-use Rattle.transitions.specs.Causes.{Row, rows, event_tests}
+use Rattle.transitions.specs.Causes.{Row, rows, event_tests, refusal_number}
 use Rattle.transitions.specs.Events.{action, act}
 use Rattle.transitions.specs.Tasks.{fade_last}
 use Rattle.transitions.specs.Types.{is_missing}
@@ -10,6 +10,7 @@ use Rattle.transitions.specs.Search.{NoneOf, First}
 use Rattle.transitions.specs.Causes.{Tests}
 use Rattle.transitions.specs.declared.actions.Action.{Action}
 use Rattle.transitions.specs.declared.actions.ActionKind.TheVariants.{W, X}
+use Rattle.transitions.specs.declared.causes.Refusal.{Refusal}
 use Rattle.transitions.specs.declared.events.DeviceAnswer.TheVariants as device
 use Rattle.transitions.specs.declared.events.Event.{Event}
 use Rattle.transitions.specs.declared.events.EventKind.{EventKind}
@@ -22,7 +23,7 @@ use Rattle.transitions.specs.declared.tasks.Task.TheVariants as task
 use Rattle.transitions.specs.declared.settings.Attributes.{Attributes}
 use Rattle.transitions.specs.Types.{Level}
 use Rattle.transitions.specs.Types.{Rate}
-use Rattle.level_control.specs.Answer.{packed}
+use Rattle.level_control.specs.Answer.{packed, answer_of}
 use Rattle.level_control.specs.Causes.{turn_tests, command_tests_of}
 use Rattle.level_control.specs.Events.{number_of, event_of}
 use Rattle.level_theorems.specs.Orders.{kinds_of, OneOf, orders}
@@ -37,6 +38,11 @@ tests_of s e = event_tests (turn_tests s e.moment.at e.kind) (command_tests_of s
 -- the options stop the event
 abbrev pub stopped_by_options : LevelControlState → Event → Bool
 stopped_by_options s e = (command_tests_of s e.moment.on_off e.kind).stopped_by_options
+
+-- the number that an answer's refusal stands for
+abbrev pub number_shown : Option Refusal → ℕ
+number_shown None = 0
+number_shown (Some cause) = refusal_number cause
 
 -- where the level that is stored after an event of a kind comes from
 pub data LevelFrom (s : LevelControlState) (k : EventKind) : Level → Type 0 where
@@ -125,6 +131,11 @@ pub record EveryEvent : Type 0 where
   -- They are what stands in the first `count` slots of the answer's array.
   pub slots_are_actions : (s : LevelControlState) (e : Event)
       → take (packed (event_of s e)).count (packed (event_of s e)).actions ≡ (event_of s e).actions
+  -- So it is of every list of at most seven, whatever the refusal and the state.
+  pub slots_hold : (refusal : Option Refusal) (s : LevelControlState) (l : List Action) → length l ≤ 7
+      → take (answer_of refusal s l).count (answer_of refusal s l).actions ≡ l
+  -- The answer's refusal stands for the event's number: none where it is 0.
+  pub refusal_shows_number : (s : LevelControlState) (e : Event) → number_shown (packed (event_of s e)).refusal ≡ (event_of s e).number
   -- The kinds of its actions stand in the order of one of the patterns for its kind and for the task it finds, entries of which may be left out.
   pub action_order : (s : LevelControlState) (e : Event) → OneOf (orders s.task e.kind) (kinds_of (event_of s e).actions)
   -- An accepted reset gives X alone, and the state made from the settings but for the level, which stays, the last accepted time, and that an event was

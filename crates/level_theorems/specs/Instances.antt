@@ -119,8 +119,8 @@ pub record Instance (o : Outcome) (c t : ℕ) (asked : List ℕ) : Type 0 where
 
 -- Each of the five starts has a played fade with refused events, a late answer and a device that answers other levels.
 pub record Instances : Type 0 where
-  pub event1 : Instance (event_of (new_state (lamp 10)) move_to13) 10 13 (11 ∷ 12 ∷ 13 ∷ [])
-  pub event3 : Instance (event_of (new_state (lamp 10)) step_by3) 10 13 (11 ∷ 12 ∷ 13 ∷ [])
-  pub event7_off : Instance (event_of (new_state (lamp 4)) off) 4 1 (3 ∷ 2 ∷ 1 ∷ [])
-  pub event7_on : Instance (event_of (state_after (event_of (new_state (lamp 10)) on).state between) answer2) 2 5 (3 ∷ 4 ∷ 5 ∷ [])
-  pub event8 : Instance (event_of (new_state (lamp 10)) scene_of13) 10 13 (11 ∷ 12 ∷ 13 ∷ [])
+  pub by_move_to_level : Instance (event_of (new_state (lamp 10)) move_to13) 10 13 (11 ∷ 12 ∷ 13 ∷ [])
+  pub by_step : Instance (event_of (new_state (lamp 10)) step_by3) 10 13 (11 ∷ 12 ∷ 13 ∷ [])
+  pub by_off : Instance (event_of (new_state (lamp 4)) off) 4 1 (3 ∷ 2 ∷ 1 ∷ [])
+  pub by_on : Instance (event_of (state_after (event_of (new_state (lamp 10)) on).state between) answer2) 2 5 (3 ∷ 4 ∷ 5 ∷ [])
+  pub by_scene : Instance (event_of (new_state (lamp 10)) scene_of13) 10 13 (11 ∷ 12 ∷ 13 ∷ [])

@@ -10,6 +10,7 @@ ghost use Rattle.level_control.specs.EveryFade.{EveryFade};
 
 /// Every event, in every state. Refused ones change nothing, the number is that of the first cause, the actions are at most
 /// seven and stand in the order of the table (Events and answers); and where times, waits and levels come from.
+#[tactic(auto, using(crate::proofs::EveryEventLaws::every_event))]
 pub fn every_event_holds()
     ensures { EveryEvent }
 {}

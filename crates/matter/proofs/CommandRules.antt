@@ -32,7 +32,7 @@ use Rattle.transitions.specs.Types.{Level}
 use Rattle.transitions.specs.declared.types.Mode.{Mode}
 use Rattle.transitions.specs.declared.types.Mode.TheVariants.{Up, Down}
 use Rattle.transitions.specs.declared.types.OptionsBitmap.{OptionsBitmap}
-use Rattle.level_control.specs.State.{accept, with_task, with_level, with_remaining_time, with_answered}
+use Rattle.level_control.specs.State.{accept}
 use Rattle.transitions.specs.Actions.{reports_of}
 use Rattle.level_control.specs.Answer.{Outcome, done}
 use Rattle.level_control.specs.Causes.{turn_tests, move_tests, stop_tests, command_tests_of}
@@ -69,7 +69,7 @@ runs_as s e k q ok free =
 
 off_level : (s : LevelControlState) (f : Fade) (since at : Micros) (on : Bool) (v stored : ℕ) → f.after ≡ Some stored → fade_last f ≡ true
     → (fade_answered (accept s at) f since at on (device.Level v)).state.current_level ≡ Some (after_off s.attributes.on_level stored v)
-unfolding fade_answered move_to_level_transition fade_ended fade_told fade_stored set_level write_remaining_time with_answered with_remaining_time with_task with_level accept restored level_to_restore
+unfolding fade_answered move_to_level_transition fade_ended fade_told fade_stored set_level write_remaining_time restored level_to_restore
 off_level s f since at on v stored after last =
     ap (λ (b : Bool). (cond b (fade_ended told f.after) others).state.current_level) last
     ∙ ap (λ (a : Option ℕ). (fade_ended told a).state.current_level) after
@@ -88,7 +88,7 @@ off_level s f since at on v stored after last =
 pub off_ends : (s : LevelControlState) (e : Event) (f : Fade) (stored v : ℕ)
     → s.task ≡ task.Fade f → f.after ≡ Some stored → fade_last f ≡ true → e.kind ≡ kind.Answer (device.Level v) → accepted s e ≡ true
     → (event_of s e).state.current_level ≡ Some (after_off s.attributes.on_level stored v)
-unfolding run answered accept command_tests_of number_of turn_tests
+unfolding run answered command_tests_of number_of turn_tests
 off_ends s e f stored v runs after last k ok =
     ap (λ (o : Outcome). o.state.current_level) (runs_as s e (kind.Answer (device.Level v)) k ok refl)
     ∙ ap (λ (x : Task). (answered_in x (accept s e.moment.at) (device.Level v) e.moment.at e.moment.on_off).state.current_level) runs
@@ -123,7 +123,7 @@ pub start_up_agrees : (s : LevelControlState) (e : Event) (level : ℕ)
     → InRange s.attributes.start_up_current_level s.settings.range.min s.settings.range.max
     → start_up s.attributes.start_up_current_level s.settings.range.min s.current_level ≡ Some level
     → asks (event_of s e).actions ≡ level ∷ []
-unfolding run started_up start_up_level accept command_tests_of
+unfolding run started_up start_up_level command_tests_of
 start_up_agrees s e level k ok order range says =
     ap (λ (o : Outcome). asks o.actions) (runs_as s e kind.StartUp k ok refl) ∙ by s.attributes.start_up_current_level range says
   where
@@ -141,7 +141,7 @@ passed s e with_on_off mask override p = ap not (continues_is s with_on_off e.mo
 pub stop : (s : LevelControlState) (e : Event) (r : CommandOptions)
     → e.kind ≡ kind.Command (command.Stop r) → accepted s e ≡ true → passes s e r.with_on_off r.options_mask r.options_override ≡ true
     → ((event_of s e).state.task ≡ task.Rest) × ((event_of s e).state.remaining_time.0 ≡ 0) × ((event_of s e).state.current_level ≡ s.current_level)
-unfolding run stopped write_remaining_time with_remaining_time with_task accept command_tests_of stop_tests
+unfolding run stopped write_remaining_time command_tests_of stop_tests
 stop s e r k ok p =
     let same = runs_as s e (kind.Command (command.Stop r)) k ok (passed s e r.with_on_off r.options_mask r.options_override p) in
     (ap (λ (o : Outcome). o.state.task) same, ap (λ (o : Outcome). o.state.remaining_time.0) same, command_keeps_level s e (ap is_command k))
@@ -188,7 +188,7 @@ pub move_asks : (s : LevelControlState) (e : Event) (r : MoveRequest) (c : ℕ)
     → e.kind ≡ kind.Command (command.Move r) → accepted s e ≡ true → passes s e r.options.with_on_off r.options.options_mask r.options.options_override ≡ true
     → s.current_level ≡ Some c → s.settings.range.min ≤ c → c ≤ s.settings.range.max → s.settings.range.max ≤ 254
     → asks (event_of s e).actions ≡ levels (move_to r.mode s.settings.range.min s.settings.range.max c)
-unfolding run begin_move accept command_tests_of move_tests number_of at_limit rate_by
+unfolding run begin_move command_tests_of move_tests number_of at_limit rate_by
 move_asks s e r c k ok p level low high small =
     ap (λ (o : Outcome). asks o.actions) (runs_as s e (kind.Command (command.Move r)) k ok free)
     ∙ split (at_limit s.current_level r.mode lo hi)

@@ -11,7 +11,7 @@ use Rattle.transitions.specs.Options.{should_continue}
 use Rattle.transitions.specs.RemainingTime.{remaining_time_due}
 use Rattle.transitions.specs.Tasks.{at_limit, next_move, fade_asking, fade_waiting, fade_from, level_to_restore, begin_fade}
 use Rattle.transitions.specs.Types.{same_level, level_or, time_or}
-use Rattle.level_control.specs.State.{new_state, accept, with_task, with_level, with_remaining_time, with_answered}
+use Rattle.level_control.specs.State.{new_state}
 use Rattle.transitions.specs.Actions.{reports_of}
 use Rattle.level_control.specs.Reports.{write_remaining_time, level_due, set_level, told_level, coupled_by, continues}
 use Rattle.level_control.specs.Targets.{go_to, moved_to_level, stepped_level, stepped_time, stepped, recalled}
@@ -27,7 +27,7 @@ use Rattle.transitions.specs.Moves.{move_period}
 use Rattle.matter.specs.Parts.{Parts}
 
 pub parts : Parts
-unfolding accept at_limit move_tests next_move answered begin_fade begin_move command_tests_of continues coupled_by coupled_on_off current_level_due event_of executes fade_answered fade_asking fade_coupling fade_ended fade_from fade_goes_on fade_period fade_stored fade_told fade_waiting fade_woken first_cause go_to is_transition_start leaves_min level_due level_or level_tests level_to_restore move_answered move_ends move_goes_on move_period move_then move_to_level_tests move_to_level_transition move_transition moved_to_level new_state next next_level number_of off_time on_answered on_goes_on on_start on_time rate_by rate_in_force rate_tests recalled remaining_after remaining_time_due reports_of restored run same_level scaled_floor scene_tests set_level should_continue start_of start_up_level started_up step_level step_overflows step_tests step_time stepped stepped_level stepped_time switched target_level time_or time_refused told_level turn_tests turned_off turned_on wait_or_ask with_answered with_level with_remaining_time with_task woken write_remaining_time
+unfolding at_limit move_tests next_move answered begin_fade begin_move command_tests_of continues coupled_by coupled_on_off current_level_due event_of executes fade_answered fade_asking fade_coupling fade_ended fade_from fade_goes_on fade_period fade_stored fade_told fade_waiting fade_woken first_cause go_to is_transition_start leaves_min level_due level_or level_tests level_to_restore move_answered move_ends move_goes_on move_period move_then move_to_level_tests move_to_level_transition move_transition moved_to_level new_state next next_level number_of off_time on_answered on_goes_on on_start on_time rate_by rate_in_force rate_tests recalled remaining_after remaining_time_due reports_of restored run same_level scaled_floor scene_tests set_level should_continue start_of start_up_level started_up step_level step_overflows step_tests step_time stepped stepped_level stepped_time switched target_level time_or time_refused told_level turn_tests turned_off turned_on wait_or_ask woken write_remaining_time
 parts = record {
   level_255 = (refl, refl);
   missing_time = (refl, refl);

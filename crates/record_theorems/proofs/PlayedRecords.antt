@@ -74,7 +74,7 @@ start_event = event (micros 2000000) false (kind.Command (command.MoveToLevel (r
 })))
 
 pub instance : Instance
-unfolding accept answered begin_fade command_tests_of continues coupled_by coupled_on_off current_level_due event_of event_read executes fade_answered fade_asking fade_coupling fade_ended fade_from fade_goes_on fade_period fade_stored fade_told fade_waiting fade_woken first_cause go_to is_transition_start kind_read level_due level_or level_tests level_to_restore move_to_level_tests move_to_level_transition moved_to_level new_state next next_level number_of off_time on_answered on_goes_on on_time outcomes_of rate_in_force recalled record_outcome remaining_after remaining_time_due reports_of restored run same_level scaled_floor scene_tests set_level settings_read should_continue start_of step_level step_overflows step_tests step_time stepped stepped_level stepped_time switched target_level time_or time_refused told_level turn_tests turned_off turned_on wait_or_ask with_answered with_level with_remaining_time with_task woken write_remaining_time
+unfolding answered begin_fade command_tests_of continues coupled_by coupled_on_off current_level_due event_of event_read executes fade_answered fade_asking fade_coupling fade_ended fade_from fade_goes_on fade_period fade_stored fade_told fade_waiting fade_woken first_cause go_to is_transition_start kind_read level_due level_or level_tests level_to_restore move_to_level_tests move_to_level_transition moved_to_level new_state next next_level number_of off_time on_answered on_goes_on on_time outcomes_of rate_in_force recalled record_outcome remaining_after remaining_time_due reports_of restored run same_level scaled_floor scene_tests set_level settings_read should_continue start_of step_level step_overflows step_tests step_time stepped stepped_level stepped_time switched target_level time_or time_refused told_level turn_tests turned_off turned_on wait_or_ask woken write_remaining_time
 instance =
     let x : Settings = settings_at settings_bytes in
     let first : Record = held start_bytes refl in

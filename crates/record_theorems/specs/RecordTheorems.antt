@@ -23,7 +23,7 @@ use Rattle.level_theorems.specs.Replies.{Reply, answers_from, in_time, delays}
 use Rattle.sheet.specs.Lines as lines
 use Rattle.sheet.specs.Lines.{lines_from, text_of}
 use Rattle.sheet.specs.Play.{play_of}
-use Rattle.sheet.specs.declared.refusal.Refusal.{Refusal}
+use Rattle.sheet.specs.declared.refusal.PlayRefusal.{PlayRefusal}
 use Rattle.record_theorems.specs.RecordPlays.{Record, bytes_of, answers_of, answer_to, accepts, seen, only_onward, StartsAt}
 
 -- settings that are read from a record
@@ -49,7 +49,7 @@ pub record EveryEventRecorded : Type 0 where
   -- An answer has at most seven actions.
   pub at_most_seven : (s : LevelControlState) (b : Record) → length (answer_to s b).actions ≤ 7
   -- No refused call changes the lent output.
-  pub refused_call : (records out : List ℕ) (why : Refusal) → (play_of records out).0 ≡ Err why → (play_of records out).1 ≡ out
+  pub refused_call : (records out : List ℕ) (why : PlayRefusal) → (play_of records out).0 ≡ Err why → (play_of records out).1 ≡ out
 
 -- the answers to the records after the start of a fade, as they stand in the list of all answers
 abbrev pub later : Settings → List Record → List Record → List Outcome

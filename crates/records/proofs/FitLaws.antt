@@ -17,7 +17,7 @@ use Rattle.records.specs.Settings.{settings_wrong, settings_at, settings_read}
 use Rattle.records.specs.Events.{kinds, event_read}
 use Rattle.records.specs.Written.{ByteFits, TimeFits, AnswerFits, KindFits, EventFits, SettingsFit, Allowed}
 use Rattle.records.specs.Laws.{AllBytes}
-use Rattle.records.specs.declared.settings.SettingsRefusal.TheVariants.{RecordWrong, MaxAbove254, MinAboveMax, LightingMin0}
+use Rattle.records.specs.declared.refusal.RecordRefusal.TheVariants.{RecordWrong, MaxAbove254, MinAboveMax, LightingMin0}
 use Rattle.records.proofs.NumberLaws.{small, below}
 use Rattle.records.proofs.LayoutLaws.{◌also◌}
 use Rattle.records.proofs.HeadLaws.{then_gives, map_gives, Each, each_at, parts}

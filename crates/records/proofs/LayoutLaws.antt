@@ -23,7 +23,7 @@ use Rattle.records.specs.Settings.{settings_wrong, settings_at, settings_read, s
 use Rattle.records.specs.Events.{kinds, kind_read, event_read, event_read_number}
 use Rattle.records.specs.Layout.{Limit, Layout, layout, settings_layout, event_layouts, Within, Keeps, Marked}
 use Rattle.records.specs.Laws.{settings_causes, settings_tests}
-use Rattle.records.specs.declared.settings.SettingsRefusal.TheVariants.{RecordWrong, MaxAbove254, MinAboveMax, LightingMin0}
+use Rattle.records.specs.declared.refusal.RecordRefusal.TheVariants.{RecordWrong, MaxAbove254, MinAboveMax, LightingMin0}
 
 -- the unnamed bytes
 

@@ -14,7 +14,7 @@ use Rattle.records.specs.Bytes.{byte_at}
 use Rattle.records.specs.Settings.{settings_read}
 use Rattle.records.specs.Events.{kind_read, event_read}
 use Rattle.records.specs.Layout.{MissingInEvent, TimeOfMoveToLevel, RateOfMove, TimeOfStep, LevelOfAnswer, LevelOfScene, OnLevelSet, DefaultRateSet, StartUpLevelSet, MissingInSettings, LevelUnknown, OnLevelUnknown, StartUpLevelUnknown, DefaultRateUnknown, OnTimeUnknown, OffTimeUnknown, SameBut}
-use Rattle.records.specs.declared.settings.SettingsRefusal.TheVariants.{RecordWrong}
+use Rattle.records.specs.declared.refusal.RecordRefusal.TheVariants.{RecordWrong}
 
 -- the values of f at n places from i on
 abbrev table : (ℕ → ℕ) → ℕ → ℕ → List ℕ

@@ -4,8 +4,8 @@ use Rattle.std.specs.Bool.{then_some}
 use Rattle.transitions.specs.declared.settings.Attributes.{Attributes}
 use Rattle.transitions.specs.declared.settings.Settings.{Settings}
 use Rattle.records.specs.Bytes.{byte_at, tenths_at, is_flag, is_set, zeros_from, has_marks}
-use Rattle.records.specs.declared.settings.SettingsRefusal.{SettingsRefusal}
-use Rattle.records.specs.declared.settings.SettingsRefusal.TheVariants.{RecordWrong, MaxAbove254, MinAboveMax, LightingMin0}
+use Rattle.records.specs.declared.refusal.RecordRefusal.{RecordRefusal}
+use Rattle.records.specs.declared.refusal.RecordRefusal.TheVariants.{RecordWrong, MaxAbove254, MinAboveMax, LightingMin0}
 
 -- a mark, a flag, known bit 6 or 7, or the unnamed byte
 abbrev pub settings_wrong : List ℕ → Bool
@@ -37,7 +37,7 @@ settings_at s = record {
 }
 
 -- MAX, MIN and lighting, in the order of the causes
-abbrev pub checked : Settings → Result Settings SettingsRefusal
+abbrev pub checked : Settings → Result Settings RecordRefusal
 checked x =
     if nat_lt 254 x.range.max then Err MaxAbove254
     else if nat_lt x.range.max x.range.min then Err MinAboveMax
@@ -45,17 +45,17 @@ checked x =
     else Ok x
 
 -- what a record is read as, for every list of bytes
-unfoldable pub settings_read : List ℕ → Result Settings SettingsRefusal
+unfoldable pub settings_read : List ℕ → Result Settings RecordRefusal
 settings_read s = if settings_wrong s then Err RecordWrong else checked (settings_at s)
 
 -- the number of a refusal
-abbrev pub refusal_number : SettingsRefusal → ℕ
+abbrev pub refusal_number : RecordRefusal → ℕ
 refusal_number RecordWrong = 1
 refusal_number MaxAbove254 = 2
 refusal_number MinAboveMax = 3
 refusal_number LightingMin0 = 4
 
 -- the number of a record: 0 where it is accepted
-abbrev pub settings_read_number : Result Settings SettingsRefusal → ℕ
+abbrev pub settings_read_number : Result Settings RecordRefusal → ℕ
 settings_read_number (Ok settings) = 0
 settings_read_number (Err refusal) = refusal_number refusal

@@ -3,7 +3,8 @@ ghost use Rattle.std.specs.Prelude.{◌≡◌, ◌≢◌};
 ghost use Rattle.records.specs.Bytes.{byte_at};
 ghost use Rattle.records.specs.Events.{answer, bare, command_options, device_update, event_read, kind_read, known_value, mode_at, move, move_to_level, of_command, on_off_changed, scene, step, stop};
 
-use crate::bytes::{clock_time, flag, marked, tenths_at, zeros_from};
+use crate::RECORD;
+use crate::bytes::{array_at, clock_time, flag, marked, tenths_at, zeros_from};
 use transitions::events::{
     Command, DeviceAnswer, Event, EventKind, MoveRequest, MoveToLevelRequest, SceneRequest,
     StepRequest,
@@ -32,7 +33,7 @@ pub fn read_event(bytes: &[u8]) -> Option<Event>
 
 /// Byte 2, and what its kind says of the bytes from 12 on.
 #[tactic(auto, unfolding(crate::specs::Events::kind_read))]
-fn read_kind(bytes: &[u8; 20]) -> Option<EventKind>
+fn read_kind(bytes: &[u8; RECORD]) -> Option<EventKind>
     ensures { result ≡ kind_read bytes.now }
 {
     match bytes[2] {
@@ -45,7 +46,7 @@ fn read_kind(bytes: &[u8; 20]) -> Option<EventKind>
 
 /// The other twelve kinds.
 #[tactic(auto, using(crate::proofs::KindLaws::no_kind), unfolding(crate::specs::Events::kind_read))]
-fn read_command(bytes: &[u8; 20]) -> Option<Command>
+fn read_command(bytes: &[u8; RECORD]) -> Option<Command>
     requires no_start_up { byte_at bytes.now 2 ≢ 0 }
     requires no_answer { byte_at bytes.now 2 ≢ 5 }
     requires no_wake { byte_at bytes.now 2 ≢ 6 }
@@ -69,13 +70,13 @@ fn read_command(bytes: &[u8; 20]) -> Option<Command>
 }
 
 /// A kind that has no bytes of its own.
-fn bare<T: Drop>(bytes: &[u8; 20], kind: T) -> Option<T>
+fn bare<T: Drop>(bytes: &[u8; RECORD], kind: T) -> Option<T>
     ensures { result ≡ bare bytes.now kind }
 {
     zeros_from(bytes, 12).then_some(kind)
 }
 
-fn read_move_to_level(bytes: &[u8; 20]) -> Option<Command>
+fn read_move_to_level(bytes: &[u8; RECORD]) -> Option<Command>
     ensures { result ≡ move_to_level bytes.now }
 {
     let options = command_options(bytes[12], bytes[17], bytes[18])?;
@@ -87,7 +88,7 @@ fn read_move_to_level(bytes: &[u8; 20]) -> Option<Command>
     }))
 }
 
-fn read_move(bytes: &[u8; 20]) -> Option<Command>
+fn read_move(bytes: &[u8; RECORD]) -> Option<Command>
     ensures { result ≡ move bytes.now }
 {
     let options = command_options(bytes[12], bytes[16], bytes[17])?;
@@ -101,7 +102,7 @@ fn read_move(bytes: &[u8; 20]) -> Option<Command>
 }
 
 /// It has no unnamed byte.
-fn read_step(bytes: &[u8; 20]) -> Option<Command>
+fn read_step(bytes: &[u8; RECORD]) -> Option<Command>
     ensures { result ≡ step bytes.now }
 {
     let options = command_options(bytes[12], bytes[18], bytes[19])?;
@@ -115,7 +116,7 @@ fn read_step(bytes: &[u8; 20]) -> Option<Command>
     }))
 }
 
-fn read_stop(bytes: &[u8; 20]) -> Option<Command>
+fn read_stop(bytes: &[u8; RECORD]) -> Option<Command>
     ensures { result ≡ stop bytes.now }
 {
     let options = command_options(bytes[12], bytes[13], bytes[14])?;
@@ -123,7 +124,7 @@ fn read_stop(bytes: &[u8; 20]) -> Option<Command>
 }
 
 /// The level counts with code 0 alone.
-fn read_answer(bytes: &[u8; 20]) -> Option<DeviceAnswer>
+fn read_answer(bytes: &[u8; RECORD]) -> Option<DeviceAnswer>
     ensures { result ≡ answer bytes.now }
 {
     let answer = match bytes[12] {
@@ -135,32 +136,32 @@ fn read_answer(bytes: &[u8; 20]) -> Option<DeviceAnswer>
     zeros_from(bytes, 14).then_some(answer)
 }
 
-fn read_on_off_changed(bytes: &[u8; 20]) -> Option<Command>
+fn read_on_off_changed(bytes: &[u8; RECORD]) -> Option<Command>
     ensures { result ≡ on_off_changed bytes.now }
 {
     let on = flag(bytes[12])?;
     zeros_from(bytes, 13).then_some(Command::OnOffChanged(on))
 }
 
-fn read_scene(bytes: &[u8; 20]) -> Option<Command>
+fn read_scene(bytes: &[u8; RECORD]) -> Option<Command>
     ensures { result ≡ scene bytes.now }
 {
     let present = flag(bytes[12])?;
-    let millis = u32::from_le_bytes([bytes[14], bytes[15], bytes[16], bytes[17]]);
+    let millis = u32::from_le_bytes(array_at(bytes, 14));
     zeros_from(bytes, 18).then_some(Command::Scene(SceneRequest {
         level: present.then_some(bytes[13]),
         transition_time: Millis(millis),
     }))
 }
 
-fn read_device_update(bytes: &[u8; 20]) -> Option<Command>
+fn read_device_update(bytes: &[u8; RECORD]) -> Option<Command>
     ensures { result ≡ device_update bytes.now }
 {
     zeros_from(bytes, 13).then_some(Command::DeviceUpdate(bytes[12]))
 }
 
 /// The level or the rate of a setter.
-fn read_known(bytes: &[u8; 20]) -> Option<Option<u8>>
+fn read_known(bytes: &[u8; RECORD]) -> Option<Option<u8>>
     ensures { result ≡ known_value bytes.now }
 {
     let known = flag(bytes[12])?;

@@ -3,9 +3,13 @@
 
 mod bytes;
 pub mod events;
+pub mod refusal;
 pub mod settings;
 
 ghost use Rattle.records.specs.Laws.{Laws};
+
+/// The bytes of a record.
+pub const RECORD: usize = 20;
 
 /// The records in the rules' own words: a theorem, and nothing to run.
 #[tactic(auto, using(crate::proofs::RecordLaws::record_laws))]

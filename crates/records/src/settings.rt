@@ -1,52 +1,36 @@
 //! A record to settings.
 ghost use Rattle.std.specs.Prelude.{◌≡◌, Ok, Err, IfErr, OnOk, ◌<◌, not, is_some, IfSome};
-ghost use Rattle.records.specs.Settings.{checked, known_bit, refusal_number, settings_at, settings_read, settings_wrong};
+ghost use Rattle.records.specs.Settings.{checked, known_bit, settings_at, settings_read, settings_wrong};
 
+use crate::RECORD;
 use crate::bytes::{flag, marked, tenths_at, zeros_from};
+use crate::refusal::RecordRefusal;
 use transitions::settings::{Attributes, Settings};
 use transitions::types::{LevelRange, OptionsBitmap};
 
-/// Why settings are refused (docs/RULES.md, Causes), and the numbers.
-#[derive(Clone, Copy, Debug, PartialEq, Eq)]
-pub enum SettingsRefusal {
-    /// Not 20 bytes, or a mark, a flag, known bit 6 or 7, or the unnamed byte is wrong.
-    RecordWrong = 1,
-    MaxAbove254 = 2,
-    MinAboveMax = 3,
-    LightingMin0 = 4,
-}
-
-impl From<SettingsRefusal> for u8 {
-    ghost from_gives = { λ refusal number. number ≡ refusal_number refusal };
-
-    fn from(refusal: SettingsRefusal) -> u8 {
-        refusal as u8
-    }
-}
-
 /// The settings that a record says, or the first cause that refuses them.
 #[tactic(auto, unfolding(crate::specs::Settings::settings_read))]
-pub fn read_settings(bytes: &[u8]) -> Result<Settings, SettingsRefusal>
+pub fn read_settings(bytes: &[u8]) -> Result<Settings, RecordRefusal>
     ensures { result ≡ settings_read bytes.now }
 {
-    let settings = read_record(bytes).ok_or(SettingsRefusal::RecordWrong)?;
+    let settings = read_record(bytes).ok_or(RecordRefusal::RecordWrong)?;
     check(&settings)?;
     Ok(settings)
 }
 
-fn check(settings: &Settings) -> Result<(), SettingsRefusal>
+fn check(settings: &Settings) -> Result<(), RecordRefusal>
     ensures ok { OnOk result (checked settings.now ≡ Ok settings.now) }
     ensures err { IfErr result (λ why. checked settings.now ≡ Err why) }
 {
     let LevelRange { min, max } = settings.range;
     if 254 < max {
-        return Err(SettingsRefusal::MaxAbove254);
+        return Err(RecordRefusal::MaxAbove254);
     }
     if max < min {
-        return Err(SettingsRefusal::MinAboveMax);
+        return Err(RecordRefusal::MinAboveMax);
     }
     if settings.lighting && min == 0 {
-        return Err(SettingsRefusal::LightingMin0);
+        return Err(RecordRefusal::LightingMin0);
     }
     Ok(())
 }
@@ -84,7 +68,7 @@ fn read_record(bytes: &[u8]) -> Option<Settings>
 }
 
 /// A bit of byte 11.
-fn is_known(bytes: &[u8; 20], bit: u32) -> bool
+fn is_known(bytes: &[u8; RECORD], bit: u32) -> bool
     requires { bit < 8 }
     ensures { result ≡ known_bit bytes.now bit }
 {

@@ -30,13 +30,11 @@ fn add_bytes(sum: u32, bytes: &[u8]) -> u32 {
         .fold(sum, |total, &byte| total.wrapping_add(u32::from(byte)))
 }
 
-/// A number of a head, low byte first; of a head that was cut, the bytes that are missing are 0.
-fn number(head: &[u8], at: usize) -> u32 {
-    let mut bytes = [0; 4];
-    for (byte, read) in bytes.iter_mut().zip(head.iter().skip(at)) {
-        *byte = *read;
-    }
-    u32::from_le_bytes(bytes)
+/// The two numbers that a head ends with, low byte first, or nothing where it is cut.
+fn two_numbers(bytes: &[u8]) -> Option<(u32, u32)> {
+    let (first, second) = bytes.split_first_chunk::<4>()?;
+    let second: &[u8; 4] = second.as_array()?;
+    Some((u32::from_le_bytes(*first), u32::from_le_bytes(*second)))
 }
 
 /// The next n bytes, or as many as there are and the room holds.
@@ -53,13 +51,13 @@ impl<R: Read + Drop> List<R> {
     pub(crate) fn open(mut input: R) -> io::Result<Option<List<R>>> {
         let mut room = [0; 16];
         let head = read_some(&mut input, 16, &mut room)?;
-        if head.len() < 16 || !head.starts_with(b"LCPLAYS1") {
+        let Some((plays, sum)) = head.strip_prefix(b"LCPLAYS1").and_then(two_numbers) else {
             return Ok(None);
-        }
+        };
         Ok(Some(List {
             input,
-            plays: number(head, 8),
-            sum: number(head, 12),
+            plays,
+            sum,
             read: 0,
         }))
     }
@@ -79,11 +77,10 @@ impl<R: Read + Drop> List<R> {
     ) -> io::Result<Option<Play<'a>>> {
         let mut room = [0; 8];
         let head = self.read_summed(8, &mut room)?;
-        if head.len() < 8 {
+        let Some((n, m)) = two_numbers(head) else {
             return Ok(None);
-        }
-        let n = number(head, 0) as usize;
-        let m = number(head, 4) as usize;
+        };
+        let (n, m) = (n as usize, m as usize);
         let records = self.read_summed(n, records)?;
         let sheet = self.read_summed(m, sheet)?;
         if records.len() < n || sheet.len() < m {

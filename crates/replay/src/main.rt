@@ -8,15 +8,13 @@ mod states;
 use crate::list::{List, MOST_RECORDS, MOST_SHEET, Play};
 use crate::states::print_states;
 use sheet::key::key_sheet;
+use sheet::play::ROOM;
 use std::env::{Env, FillError};
 use std::io;
 use std::io::{Read, Write};
 
-/// Room for every sheet.
-const ROOM: usize = 48_195;
-
 #[derive(Clone, Copy, Debug, PartialEq, Eq)]
-enum Mode {
+enum Output {
     Compare,
     Sheets,
     States,
@@ -33,19 +31,19 @@ fn print_title(out: &mut impl Write, index: u32) -> io::Result<()> {
 }
 
 /// What is done with a play: our sheet is held to the list's, or printed. Whether it agrees.
-fn show(out: &mut impl Write, index: u32, mode: Mode, play: Play) -> io::Result<bool> {
+fn show(out: &mut impl Write, index: u32, output: Output, play: Play) -> io::Result<bool> {
     let mut room = [0; ROOM];
-    let length = ROOM.min(key_sheet(play.records, &mut room));
+    let length = key_sheet(play.records, &mut room);
     let sheet = &room[..length];
-    match mode {
-        Mode::Compare => return Ok(sheet == play.sheet),
-        Mode::Sheets => {
+    match output {
+        Output::Compare => return Ok(sheet == play.sheet),
+        Output::Sheets => {
             print_title(out, index)?;
             out.write_all(sheet)?;
         }
-        Mode::States => {
+        Output::States => {
             print_title(out, index)?;
-            print_states(out, play.records)?;
+            print_states(out, play.records, sheet)?;
         }
     }
     Ok(true)
@@ -54,7 +52,7 @@ fn show(out: &mut impl Write, index: u32, mode: Mode, play: Play) -> io::Result<
 /// None where the list is cut.
 fn all(
     list: &mut List<impl Read + Drop>,
-    mode: Mode,
+    output: Output,
     out: &mut impl Write,
 ) -> io::Result<Option<Count>> {
     let mut count = Count {
@@ -67,7 +65,7 @@ fn all(
         let Some(play) = list.play(&mut records, &mut sheet)? else {
             return Ok(None);
         };
-        if show(out, index, mode, play)? {
+        if show(out, index, output, play)? {
             count.agree += 1;
         } else {
             count.differ += 1;
@@ -89,13 +87,13 @@ fn has_argument(rt: &impl Env, index: usize) -> bool {
     !matches!(rt.arg(index, &mut []), Err(FillError::NotPresent))
 }
 
-fn mode_of(rt: &impl Env) -> Mode {
+fn output_of(rt: &impl Env) -> Output {
     if has_argument(rt, 2) {
-        Mode::States
+        Output::States
     } else if has_argument(rt, 1) {
-        Mode::Sheets
+        Output::Sheets
     } else {
-        Mode::Compare
+        Output::Compare
     }
 }
 
@@ -104,11 +102,11 @@ fn main(rt: HostRuntime) -> io::Result<()> {
     let Some(mut list) = List::open(rt.reader())? else {
         return writeln!(out, "this is no list of plays");
     };
-    let mode = mode_of(&rt);
-    match all(&mut list, mode, &mut out)? {
-        Some(count) if list.ends_well()? => match mode {
-            Mode::Compare => report(&mut out, count),
-            Mode::Sheets | Mode::States => Ok(()),
+    let output = output_of(&rt);
+    match all(&mut list, output, &mut out)? {
+        Some(count) if list.ends_well()? => match output {
+            Output::Compare => report(&mut out, count),
+            Output::Sheets | Output::States => Ok(()),
         },
         _ => writeln!(out, "the list is cut or damaged"),
     }

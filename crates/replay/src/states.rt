@@ -3,9 +3,10 @@
 use handler::LevelControlHandler;
 use level_control::answer::Answer;
 use level_control::state::LevelControlState;
+use records::RECORD;
 use records::events::read_event;
+use records::refusal::RecordRefusal;
 use records::settings::read_settings;
-use sheet::key::key_sheet;
 use sheet::play::length_ok;
 use std::fmt::Display;
 use std::io;
@@ -40,7 +41,7 @@ fn print_state(out: &mut impl Write, state: LevelControlState) -> io::Result<()>
     writeln!(out)
 }
 
-/// A letter, and a value where the sheet shows one.
+/// A letter, and a value where the sheet shows one: decided here anew, so that these lines do not lean on the text crate.
 fn print_action(out: &mut impl Write, action: Action) -> io::Result<()> {
     match action.kind {
         ActionKind::D | ActionKind::C | ActionKind::W | ActionKind::E => {
@@ -109,9 +110,9 @@ fn handled(state: LevelControlState, event: Event) -> Answer {
 
 fn print_events(out: &mut impl Write, events: &[u8], start: LevelControlState) -> io::Result<()> {
     let mut state = start;
-    for (index, record) in (1..).zip(events.chunks_exact(20)) {
+    for (index, record) in (1..).zip(events.chunks_exact(RECORD)) {
         let Some(event) = read_event(record) else {
-            print_line(out, index, 1, state, &[])?;
+            print_line(out, index, u8::from(RecordRefusal::RecordWrong), state, &[])?;
             continue;
         };
         let answer = handled(state, event);
@@ -123,18 +124,13 @@ fn print_events(out: &mut impl Write, events: &[u8], start: LevelControlState) -
     Ok(())
 }
 
-fn print_refusal(out: &mut impl Write, records: &[u8]) -> io::Result<()> {
-    let mut room = [0; 4096];
-    let length = key_sheet(records, &mut room).min(room.len());
-    out.write_all(&room[..length])
-}
-
-pub(crate) fn print_states(out: &mut impl Write, records: &[u8]) -> io::Result<()> {
+/// Of a play that is refused, its sheet, which has no state.
+pub(crate) fn print_states(out: &mut impl Write, records: &[u8], sheet: &[u8]) -> io::Result<()> {
     if length_ok(records.len())
-        && let Some((first, events)) = records.split_at_checked(20)
+        && let Some((first, events)) = records.split_at_checked(RECORD)
         && let Ok(settings) = read_settings(first)
     {
         return print_events(out, events, LevelControlState::new(settings));
     }
-    print_refusal(out, records)
+    out.write_all(sheet)
 }

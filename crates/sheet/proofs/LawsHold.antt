@@ -15,8 +15,8 @@ use lib.Seq.{sets, sets-eq, take_at, take_all, drop_at, length-take-le}
 use Rattle.text.specs.Text.{ascii, digits, digits_within}
 use Rattle.text.proofs.WriteLaws.{by_test}
 use Rattle.records.specs.Settings.{settings_read, settings_read_number}
-use Rattle.records.specs.declared.settings.SettingsRefusal.{SettingsRefusal}
-use Rattle.records.specs.declared.settings.SettingsRefusal.TheVariants.{RecordWrong, MaxAbove254, MinAboveMax, LightingMin0}
+use Rattle.records.specs.declared.refusal.RecordRefusal.{RecordRefusal}
+use Rattle.records.specs.declared.refusal.RecordRefusal.TheVariants.{RecordWrong, MaxAbove254, MinAboveMax, LightingMin0}
 use Rattle.transitions.specs.declared.settings.Settings.{Settings}
 use Rattle.level_control.specs.Answer.{Outcome}
 use Rattle.level_control.specs.State.{new_state}
@@ -24,8 +24,8 @@ use Rattle.level_control.specs.declared.state.LevelControlState.{LevelControlSta
 use Rattle.sheet.specs.Laws.{Laws}
 use Rattle.sheet.specs.Lines.{record_outcome, records_of, outcomes_of, outcome_line, lines_from, text_of}
 use Rattle.sheet.specs.Play.{length_ok, fitted, play_with, play_of, number_of, result, returned, refusal_text, shown, key_of, printed}
-use Rattle.sheet.specs.declared.refusal.Refusal.{Refusal}
-use Rattle.sheet.specs.declared.refusal.Refusal.TheVariants.{Settings as SettingsWrong, TextTooLong}
+use Rattle.sheet.specs.declared.refusal.PlayRefusal.{PlayRefusal}
+use Rattle.sheet.specs.declared.refusal.PlayRefusal.TheVariants.{Record as RecordRefused, TextTooLong}
 use Rattle.sheet.proofs.SheetLaws.{at_least, at_most, never}
 
 twenties : (n : ℕ) → length_ok n ≡ true → n % 20 ≡ 0
@@ -37,17 +37,17 @@ unfolding length_ok
 right n h = rw (le-ltb n 20 h.0, le-ltb 5120 n h.1) (eq-eqb (n % 20) 0 h.2)
 
 -- a call that is refused keeps the output, and every call its length
-abbrev Keeps : Result ℕ Refusal × List ℕ → List ℕ → Type 0
-Keeps p out = ((why : Refusal) → p.0 ≡ Err why → p.1 ≡ out) × (length p.1 ≡ length out)
+abbrev Keeps : Result ℕ PlayRefusal × List ℕ → List ℕ → Type 0
+Keeps p out = ((why : PlayRefusal) → p.0 ≡ Err why → p.1 ≡ out) × (length p.1 ≡ length out)
 
-abbrev is_text : Result ℕ Refusal → Bool
+abbrev is_text : Result ℕ PlayRefusal → Bool
 is_text (Ok n) = true
 is_text (Err why) = false
 
-refusal : (why : Refusal) (out : List ℕ) → Keeps (Err why, out) out
+refusal : (why : PlayRefusal) (out : List ℕ) → Keeps (Err why, out) out
 refusal why out = (λ w e. refl, refl)
 
-either : (b : Bool) (p q : Result ℕ Refusal × List ℕ) (out : List ℕ) → (b ≡ true → Keeps p out) → Keeps q out → Keeps (cond b p q) out
+either : (b : Bool) (p q : Result ℕ PlayRefusal × List ℕ) (out : List ℕ) → (b ≡ true → Keeps p out) → Keeps q out → Keeps (cond b p q) out
 either true p q out f g = f refl
 either false p q out f g = g
 
@@ -60,7 +60,7 @@ fitted_keeps text out = either (leb (length text) (length out)) _ _ out
     ))
     (refusal _ out)
 
-with_keeps : (r : Result Settings SettingsRefusal) (events out : List ℕ) → Keeps (play_with r events out) out
+with_keeps : (r : Result Settings RecordRefusal) (events out : List ℕ) → Keeps (play_with r events out) out
 unfolding play_with
 with_keeps (Ok settings) events out = fitted_keeps (text_of (new_state settings) events) out
 with_keeps (Err why) events out = refusal _ out
@@ -97,7 +97,7 @@ less_one (pos n) = 0
 less_one (negsuc n) = n
 
 -- a refusal of the call itself
-given : (why : Refusal) (out : List ℕ) (n : ℕ) → 1 ≤ number_of why → (returned (Err why, out) ≡ (negsuc n, out)) ↔ (number_of why ≡ n + 1)
+given : (why : PlayRefusal) (out : List ℕ) (n : ℕ) → 1 ≤ number_of why → (returned (Err why, out) ≡ (negsuc n, out)) ↔ (number_of why ≡ n + 1)
 given why out n h = (
   λ e. let same : number_of why - 1 ≡ n = ap (λ (p : ℤ × List ℕ). less_one p.0) e in omega arith,
   λ e. let same : number_of why - 1 ≡ n = omega arith in rw same refl,
@@ -115,14 +115,14 @@ not_fitted text out n h = go (leb (length text) (length out))
       λ e. absurd (omega arith),
     )
 
-minus_with : (r : Result Settings SettingsRefusal) (events out : List ℕ) (n : ℕ) → n ≤ 3
+minus_with : (r : Result Settings RecordRefusal) (events out : List ℕ) (n : ℕ) → n ≤ 3
     → (returned (play_with r events out) ≡ (negsuc n, out)) ↔ (settings_read_number r ≡ n + 1)
 unfolding play_with
 minus_with (Ok settings) events out n h = not_fitted (text_of (new_state settings) events) out n h
-minus_with (Err RecordWrong) events out n h = given (SettingsWrong RecordWrong) out n (omega arith)
-minus_with (Err MaxAbove254) events out n h = given (SettingsWrong MaxAbove254) out n (omega arith)
-minus_with (Err MinAboveMax) events out n h = given (SettingsWrong MinAboveMax) out n (omega arith)
-minus_with (Err LightingMin0) events out n h = given (SettingsWrong LightingMin0) out n (omega arith)
+minus_with (Err RecordWrong) events out n h = given (RecordRefused RecordWrong) out n (omega arith)
+minus_with (Err MaxAbove254) events out n h = given (RecordRefused MaxAbove254) out n (omega arith)
+minus_with (Err MinAboveMax) events out n h = given (RecordRefused MinAboveMax) out n (omega arith)
+minus_with (Err LightingMin0) events out n h = given (RecordRefused LightingMin0) out n (omega arith)
 
 minus_1 : (records out : List ℕ)
     → (returned (play_of records out) ≡ (negsuc 0, out))
@@ -131,7 +131,7 @@ unfolding play_of
 minus_1 records out = go (length_ok (length records))
   where
     go : (ok : Bool)
-        → (returned (cond ok (play_with (settings_read (take 20 records)) (drop 20 records) out) (Err (SettingsWrong RecordWrong), out)) ≡ (negsuc 0, out))
+        → (returned (cond ok (play_with (settings_read (take 20 records)) (drop 20 records) out) (Err (RecordRefused RecordWrong), out)) ≡ (negsuc 0, out))
         ↔ ((ok ≡ false) ⊎ (settings_read_number (settings_read (take 20 records)) ≡ 1))
     go true =
         let both = minus_with (settings_read (take 20 records)) (drop 20 records) out 0 (omega arith) in
@@ -145,7 +145,7 @@ unfolding play_of
 minus_2_3_4 records out n low high = go (length_ok (length records))
   where
     go : (ok : Bool)
-        → (returned (cond ok (play_with (settings_read (take 20 records)) (drop 20 records) out) (Err (SettingsWrong RecordWrong), out)) ≡ (negsuc n, out))
+        → (returned (cond ok (play_with (settings_read (take 20 records)) (drop 20 records) out) (Err (RecordRefused RecordWrong), out)) ≡ (negsuc n, out))
         ↔ ((ok ≡ true) × (settings_read_number (settings_read (take 20 records)) ≡ n + 1))
     go true =
         let both = minus_with (settings_read (take 20 records)) (drop 20 records) out n high in
@@ -175,31 +175,31 @@ prints_text records out settings l r h = rw (l, r, le-leb _ _ h) (refl, cut (tex
 abbrev line : ℕ → List ℕ
 line n = ascii "0 " ++ digits n ++ ascii "\n"
 
-refusal_lines : (refusal_text (SettingsWrong RecordWrong) ≡ 48 ∷ 32 ∷ 49 ∷ 10 ∷ [])
-    × (refusal_text (SettingsWrong MaxAbove254) ≡ 48 ∷ 32 ∷ 50 ∷ 10 ∷ [])
-    × (refusal_text (SettingsWrong MinAboveMax) ≡ 48 ∷ 32 ∷ 51 ∷ 10 ∷ [])
-    × (refusal_text (SettingsWrong LightingMin0) ≡ 48 ∷ 32 ∷ 52 ∷ 10 ∷ [])
+refusal_lines : (refusal_text (RecordRefused RecordWrong) ≡ 48 ∷ 32 ∷ 49 ∷ 10 ∷ [])
+    × (refusal_text (RecordRefused MaxAbove254) ≡ 48 ∷ 32 ∷ 50 ∷ 10 ∷ [])
+    × (refusal_text (RecordRefused MinAboveMax) ≡ 48 ∷ 32 ∷ 51 ∷ 10 ∷ [])
+    × (refusal_text (RecordRefused LightingMin0) ≡ 48 ∷ 32 ∷ 52 ∷ 10 ∷ [])
     × (refusal_text TextTooLong ≡ 48 ∷ 32 ∷ 49 ∷ 54 ∷ 10 ∷ [])
 unfolding refusal_text digits digits_within
 refusal_lines = (refl, refl, refl, refl, refl)
 
-short_line : (why : Refusal) → length (refusal_text why) ≤ 5
+short_line : (why : PlayRefusal) → length (refusal_text why) ≤ 5
 unfolding refusal_text digits digits_within
-short_line (SettingsWrong RecordWrong) = omega arith
-short_line (SettingsWrong MaxAbove254) = omega arith
-short_line (SettingsWrong MinAboveMax) = omega arith
-short_line (SettingsWrong LightingMin0) = omega arith
+short_line (RecordRefused RecordWrong) = omega arith
+short_line (RecordRefused MaxAbove254) = omega arith
+short_line (RecordRefused MinAboveMax) = omega arith
+short_line (RecordRefused LightingMin0) = omega arith
 short_line TextTooLong = omega arith
 
-line_is : (why : Refusal) → refusal_text why ≡ line (number_of why)
+line_is : (why : PlayRefusal) → refusal_text why ≡ line (number_of why)
 unfolding refusal_text
 line_is why = refl
 
-above_0 : (why : Refusal) → 1 ≤ number_of why
-above_0 (SettingsWrong RecordWrong) = omega arith
-above_0 (SettingsWrong MaxAbove254) = omega arith
-above_0 (SettingsWrong MinAboveMax) = omega arith
-above_0 (SettingsWrong LightingMin0) = omega arith
+above_0 : (why : PlayRefusal) → 1 ≤ number_of why
+above_0 (RecordRefused RecordWrong) = omega arith
+above_0 (RecordRefused MaxAbove254) = omega arith
+above_0 (RecordRefused MinAboveMax) = omega arith
+above_0 (RecordRefused LightingMin0) = omega arith
 above_0 TextTooLong = omega arith
 
 -- a line that fits, put at the front
@@ -210,7 +210,7 @@ put_line text out s h =
     let stands : sets out 0 text ≡ text ++ drop (length text) out = sets-eq text out 0 (omega arith) ∙ rw zero-add in
     rw (least, stands) refl
 
-prints : (p : Result ℕ Refusal × List ℕ) (out : List ℕ) (n : ℕ) → Keeps p out → result p.0 ≡ negsuc n → length (line (n + 1)) ≤ length out
+prints : (p : Result ℕ PlayRefusal × List ℕ) (out : List ℕ) (n : ℕ) → Keeps p out → result p.0 ≡ negsuc n → length (line (n + 1)) ≤ length out
     → (shown p ≡ (length (line (n + 1)), line (n + 1) ++ drop (length (line (n + 1))) out)) × (printed (shown p) ≡ line (n + 1))
 unfolding shown
 prints (Ok m, q) out n k e h = absurd (never (ap is_minus e))
@@ -257,7 +257,7 @@ too_many : (n : ℕ) → 5120 < n → length_ok n ≡ false
 unfolding length_ok
 too_many n h = rw (le-ltb n 20 (omega arith), lt-ltb 5120 n h) refl
 
-refused_long : (records out : List ℕ) → 5120 < length records → play_of records out ≡ (Err (SettingsWrong RecordWrong), out)
+refused_long : (records out : List ℕ) → 5120 < length records → play_of records out ≡ (Err (RecordRefused RecordWrong), out)
 unfolding play_of
 refused_long records out h = rw (too_many (length records) h) refl
 

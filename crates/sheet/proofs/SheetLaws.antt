@@ -15,7 +15,7 @@ use Rattle.text.proofs.WriteLaws.{by_test, sets_append, sets_out, then, first_ro
 use Rattle.level_control.specs.declared.state.LevelControlState.{LevelControlState}
 use Rattle.sheet.specs.Lines.{record_outcome, records_of, outcomes_of, outcome_line, lines_from}
 use Rattle.sheet.specs.Play.{fitted, length_ok}
-use Rattle.sheet.specs.declared.refusal.Refusal.TheVariants.{TextTooLong}
+use Rattle.sheet.specs.declared.refusal.PlayRefusal.TheVariants.{TextTooLong}
 
 -- the lines that are left: those of the whole records of some bytes
 abbrev pub rest : ℕ → LevelControlState → List ℕ → List ℕ

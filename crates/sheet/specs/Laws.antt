@@ -2,21 +2,21 @@
 use Rattle.std.specs.Prelude.{ℕ, ◌+◌, ◌/◌, ◌%◌, ◌≤◌, ◌<◌, true, false, ◌≡◌, ◌↔◌, ◌⊎◌, List, [], ◌∷◌, ◌++◌, pos, negsuc, length, take, drop, Ok, Err}
 use Rattle.text.specs.Text.{ascii, digits}
 use Rattle.records.specs.Settings.{settings_read, settings_read_number}
-use Rattle.records.specs.declared.settings.SettingsRefusal.TheVariants.{RecordWrong, MaxAbove254, MinAboveMax, LightingMin0}
+use Rattle.records.specs.declared.refusal.RecordRefusal.TheVariants.{RecordWrong, MaxAbove254, MinAboveMax, LightingMin0}
 use Rattle.transitions.specs.declared.settings.Settings.{Settings}
 use Rattle.level_control.specs.Answer.{Outcome}
 use Rattle.level_control.specs.State.{new_state}
 use Rattle.level_control.specs.declared.state.LevelControlState.{LevelControlState}
 use Rattle.sheet.specs.Lines.{record_outcome, records_of, outcomes_of, outcome_line, lines_from, text_of}
 use Rattle.sheet.specs.Play.{length_ok, play_of, returned, refusal_text, key_of, printed}
-use Rattle.sheet.specs.declared.refusal.Refusal.{Refusal}
-use Rattle.sheet.specs.declared.refusal.Refusal.TheVariants.{Settings as SettingsWrong, TextTooLong}
+use Rattle.sheet.specs.declared.refusal.PlayRefusal.{PlayRefusal}
+use Rattle.sheet.specs.declared.refusal.PlayRefusal.TheVariants.{Record as RecordRefused, TextTooLong}
 
 pub record Laws : Type 0 where
   -- the length of a play is 20 to 5,120 in twenties
   pub length_right : (n : ℕ) → (length_ok n ≡ true) ↔ ((20 ≤ n) × (n ≤ 5120) × (n % 20 ≡ 0))
   -- no refused call changes the output: what it returns, and every byte of the output
-  pub refused_keeps : (records out : List ℕ) (why : Refusal) → (play_of records out).0 ≡ Err why → (play_of records out).1 ≡ out
+  pub refused_keeps : (records out : List ℕ) (why : PlayRefusal) → (play_of records out).0 ≡ Err why → (play_of records out).1 ≡ out
   -- an accepted call: the text stands at the front, its length is returned, and the bytes past it stay
   pub text_stands : (records out : List ℕ) (settings : Settings)
       → length_ok (length records) ≡ true → settings_read (take 20 records) ≡ Ok settings
@@ -48,10 +48,10 @@ pub record Laws : Type 0 where
       length line ≤ length out
       → (key_of records out ≡ (length line, line ++ drop (length line) out)) × (printed (key_of records out) ≡ line)
   -- these lines, byte for byte
-  pub refusal_lines : (refusal_text (SettingsWrong RecordWrong) ≡ 48 ∷ 32 ∷ 49 ∷ 10 ∷ [])
-      × (refusal_text (SettingsWrong MaxAbove254) ≡ 48 ∷ 32 ∷ 50 ∷ 10 ∷ [])
-      × (refusal_text (SettingsWrong MinAboveMax) ≡ 48 ∷ 32 ∷ 51 ∷ 10 ∷ [])
-      × (refusal_text (SettingsWrong LightingMin0) ≡ 48 ∷ 32 ∷ 52 ∷ 10 ∷ [])
+  pub refusal_lines : (refusal_text (RecordRefused RecordWrong) ≡ 48 ∷ 32 ∷ 49 ∷ 10 ∷ [])
+      × (refusal_text (RecordRefused MaxAbove254) ≡ 48 ∷ 32 ∷ 50 ∷ 10 ∷ [])
+      × (refusal_text (RecordRefused MinAboveMax) ≡ 48 ∷ 32 ∷ 51 ∷ 10 ∷ [])
+      × (refusal_text (RecordRefused LightingMin0) ≡ 48 ∷ 32 ∷ 52 ∷ 10 ∷ [])
       × (refusal_text TextTooLong ≡ 48 ∷ 32 ∷ 49 ∷ 54 ∷ 10 ∷ [])
   -- keysheet reads one byte more than a play may have, which is enough
   pub reads_enough : (input out : List ℕ) → play_of (take 5121 input) out ≡ play_of input out

@@ -1,7 +1,10 @@
 -- Sheet: the text of a play, a line for each 20 bytes after the settings.
-use Rattle.std.specs.Prelude.{ℕ, zero, suc, ◌+◌, ◌/◌, List, [], ◌∷◌, ◌++◌, length, take, drop, Option, Some, None}
+use Rattle.std.specs.Prelude.{ℕ, zero, suc, ◌+◌, ◌/◌, List, [], ◌∷◌, ◌++◌, length, take, drop, Option, Some, None, Result, Ok, Err}
 use Rattle.text.specs.Line.{line_of}
 use Rattle.records.specs.Events.{event_read}
+use Rattle.sheet.specs.declared.refusal.EventRefusal.{EventRefusal}
+use Rattle.sheet.specs.declared.refusal.EventRefusal.TheVariants as event
+use Rattle.transitions.specs.Causes.{refusal_number}
 use Rattle.transitions.specs.declared.actions.Action.{Action}
 use Rattle.transitions.specs.declared.events.Event.{Event}
 use Rattle.level_control.specs.Answer.{Outcome, refused}
@@ -11,6 +14,16 @@ use Rattle.level_control.specs.declared.state.LevelControlState.{LevelControlSta
 -- what a record's event gives, by its parts
 abbrev pub outcome : ℕ → LevelControlState → List Action → Outcome
 outcome number s actions = record { number = number; state = s; actions = actions }
+
+-- the number of a refused event, that of its record where that is wrong
+abbrev pub event_number : EventRefusal → ℕ
+event_number event.RecordWrong = 1
+event_number (event.Event why) = refusal_number why
+
+-- 0 where it is accepted
+abbrev pub record_number : {A : Type 0} → Result A EventRefusal → ℕ
+record_number (Ok nothing) = 0
+record_number (Err why) = event_number why
 
 -- a wrong event record is one refused line, with number 1
 abbrev pub read_outcome : LevelControlState → Option Event → Outcome

@@ -4,12 +4,12 @@ use Rattle.std.proofs.lemmas.List.Edits.{sets}
 use Rattle.text.specs.Text.{ascii, digits, most}
 use Rattle.records.specs.Settings.{settings_read}
 use Rattle.records.specs.Settings.{refusal_number}
-use Rattle.records.specs.declared.settings.SettingsRefusal.{SettingsRefusal}
-use Rattle.records.specs.declared.settings.SettingsRefusal.TheVariants.{RecordWrong}
+use Rattle.records.specs.declared.refusal.RecordRefusal.{RecordRefusal}
+use Rattle.records.specs.declared.refusal.RecordRefusal.TheVariants.{RecordWrong}
 use Rattle.transitions.specs.declared.settings.Settings.{Settings}
 use Rattle.level_control.specs.State.{new_state}
-use Rattle.sheet.specs.declared.refusal.Refusal.{Refusal}
-use Rattle.sheet.specs.declared.refusal.Refusal.TheVariants as refusal
+use Rattle.sheet.specs.declared.refusal.PlayRefusal.{PlayRefusal}
+use Rattle.sheet.specs.declared.refusal.PlayRefusal.TheVariants as refusal
 use Rattle.sheet.specs.Lines.{text_of}
 
 -- the length of a play is 20 to 5,120 in twenties
@@ -17,40 +17,40 @@ unfoldable pub length_ok : ℕ → Bool
 length_ok n = cond (ltb n 20) false (cond (ltb 5120 n) false (eqb (n % 20) 0))
 
 -- the text at the front of out, all past it as it was; or, where it is too long, out as it was
-unfoldable pub fitted : List ℕ → List ℕ → Result ℕ Refusal × List ℕ
+unfoldable pub fitted : List ℕ → List ℕ → Result ℕ PlayRefusal × List ℕ
 fitted text out = cond (leb (length text) (length out)) (Ok (length text), text ++ drop (length text) out) (Err refusal.TextTooLong, out)
 
 -- the settings stand first
-unfoldable pub play_with : Result Settings SettingsRefusal → List ℕ → List ℕ → Result ℕ Refusal × List ℕ
+unfoldable pub play_with : Result Settings RecordRefusal → List ℕ → List ℕ → Result ℕ PlayRefusal × List ℕ
 play_with (Ok settings) events out = fitted (text_of (new_state settings) events) out
-play_with (Err why) events out = (Err (refusal.Settings why), out)
+play_with (Err why) events out = (Err (refusal.Record why), out)
 
-unfoldable pub play_of : List ℕ → List ℕ → Result ℕ Refusal × List ℕ
+unfoldable pub play_of : List ℕ → List ℕ → Result ℕ PlayRefusal × List ℕ
 play_of records out =
-    cond (length_ok (length records)) (play_with (settings_read (take 20 records)) (drop 20 records) out) (Err (refusal.Settings RecordWrong), out)
+    cond (length_ok (length records)) (play_with (settings_read (take 20 records)) (drop 20 records) out) (Err (refusal.Record RecordWrong), out)
 
-abbrev pub written : Result ℕ Refusal → ℕ
+abbrev pub written : Result ℕ PlayRefusal → ℕ
 written (Ok n) = n
 written (Err why) = 0
 
-abbrev pub number_of : Refusal → ℕ
-number_of (refusal.Settings why) = refusal_number why
+abbrev pub number_of : PlayRefusal → ℕ
+number_of (refusal.Record why) = refusal_number why
 number_of refusal.TextTooLong = 16
 
 -- the bytes written, or minus the number of the refusal: negsuc n is minus n + 1
-abbrev pub result : Result ℕ Refusal → ℤ
+abbrev pub result : Result ℕ PlayRefusal → ℤ
 result (Ok n) = pos n
 result (Err why) = negsuc (number_of why - 1)
 
-abbrev pub returned : Result ℕ Refusal × List ℕ → ℤ × List ℕ
+abbrev pub returned : Result ℕ PlayRefusal × List ℕ → ℤ × List ℕ
 returned p = (result p.0, p.1)
 
 -- what keysheet prints of a refused call: `0 `, the number and a line feed
-unfoldable pub refusal_text : Refusal → List ℕ
+unfoldable pub refusal_text : PlayRefusal → List ℕ
 refusal_text why = ascii "0" ++ ascii " " ++ digits (number_of why) ++ ascii "\n"
 
 -- what keysheet prints, as far as out reaches, and its length
-unfoldable pub shown : Result ℕ Refusal × List ℕ → ℕ × List ℕ
+unfoldable pub shown : Result ℕ PlayRefusal × List ℕ → ℕ × List ℕ
 shown (Ok n, out) = (n, out)
 shown (Err why, out) = (min (length (refusal_text why)) most, sets out 0 (refusal_text why))
 

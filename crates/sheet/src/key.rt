@@ -1,14 +1,15 @@
 //! What the program keysheet prints.
-ghost use Rattle.std.specs.Prelude.{◌≡◌};
+ghost use Rattle.std.specs.Prelude.{◌≡◌, ◌≤◌};
 ghost use Rattle.sheet.specs.Play.{key_of};
 
-use crate::play::play;
+use crate::play::{ROOM, play};
 use text::line::Line;
 
 /// The text, or `0 `, the number of the refusal and a line feed, at the front of out, as far as out reaches; and how long it is.
 #[tactic(auto, using(crate::proofs::SheetLaws::front_set), unfolding(crate::specs::Play::key_of, crate::specs::Play::shown, crate::specs::Play::refusal_text))]
 pub fn key_sheet(records: &[u8], out: &mut [u8]) -> usize
-    ensures { (result, out.new) ≡ key_of records.now out.old }
+    ensures out_after { (result, out.new) ≡ key_of records.now out.old }
+    ensures result_bound { result ≤ 48195 }
 {
     match play(records, out) {
         Ok(length) => length,

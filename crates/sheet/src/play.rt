@@ -2,9 +2,15 @@
 ghost use Rattle.std.specs.Prelude.{◌≡◌, ◌≤◌};
 ghost use Rattle.sheet.specs.Play.{length_ok, play_of, returned, written};
 
-use crate::lines::{RECORD, fit};
-use crate::refusal::Refusal;
-use records::settings::{SettingsRefusal, read_settings};
+use crate::lines::fit;
+use crate::refusal::PlayRefusal;
+use records::RECORD;
+use records::refusal::RecordRefusal;
+use records::settings::read_settings;
+use text::line::LONGEST;
+
+/// Room for every sheet: a play has at most 255 events.
+pub const ROOM: usize = 255 * LONGEST;
 
 /// 20 to 5,120 bytes in twenties.
 #[tactic(auto, unfolding(crate::specs::Play::length_ok))]
@@ -16,12 +22,12 @@ pub fn length_ok(length: usize) -> bool
 
 /// The sheet at the front of out and its length, or a refusal and out as it was.
 #[tactic(auto, using(crate::proofs::SheetLaws::at_least, crate::proofs::SheetLaws::at_most, crate::proofs::SheetLaws::tail_is), unfolding(crate::specs::Play::play_of, crate::specs::Play::play_with))]
-pub fn play(records: &[u8], out: &mut [u8]) -> Result<usize, Refusal>
+pub fn play(records: &[u8], out: &mut [u8]) -> Result<usize, PlayRefusal>
     ensures out_after { (result, out.new) ≡ play_of records.now out.old }
     ensures result_bound { written result ≤ 48195 }
 {
     if !length_ok(records.len()) {
-        return Err(SettingsRefusal::RecordWrong.into());
+        return Err(RecordRefusal::RecordWrong.into());
     }
     let (first, events) = records.split_at(RECORD);
     let settings = read_settings(first)?;

@@ -1,32 +1,61 @@
-//! Why a play is refused.
+//! Why a play, or one of its events, is refused.
 ghost use Rattle.std.specs.Prelude.{◌≡◌};
+ghost use Rattle.sheet.specs.Lines.{event_number};
 ghost use Rattle.sheet.specs.Play.{number_of};
-ghost use Rattle.sheet.specs.declared.refusal.Refusal.TheVariants.{Settings};
+ghost use Rattle.sheet.specs.declared.refusal.EventRefusal.TheVariants as event;
+ghost use Rattle.sheet.specs.declared.refusal.PlayRefusal.TheVariants.{Record};
 
-use records::settings::SettingsRefusal;
+use records::refusal::RecordRefusal;
+use transitions::causes::Refusal;
 
 /// Its records are wrong, or its text is longer than the room for it (docs/RULES.md, Causes).
 #[derive(Clone, Copy, Debug, PartialEq, Eq)]
-pub enum Refusal {
-    Settings(SettingsRefusal),
+pub enum PlayRefusal {
+    Record(RecordRefusal),
     TextTooLong,
 }
 
-impl From<SettingsRefusal> for Refusal {
-    ghost from_gives = { λ why refusal. refusal ≡ Settings why };
+impl From<RecordRefusal> for PlayRefusal {
+    ghost from_gives = { λ why refusal. refusal ≡ Record why };
 
-    fn from(why: SettingsRefusal) -> Refusal {
-        Refusal::Settings(why)
+    fn from(why: RecordRefusal) -> PlayRefusal {
+        PlayRefusal::Record(why)
     }
 }
 
-impl From<Refusal> for u8 {
+impl From<PlayRefusal> for u8 {
     ghost from_gives = { λ refusal number. number ≡ number_of refusal };
 
-    fn from(refusal: Refusal) -> u8 {
+    fn from(refusal: PlayRefusal) -> u8 {
         match refusal {
-            Refusal::Settings(why) => u8::from(why),
-            Refusal::TextTooLong => 16,
+            PlayRefusal::Record(why) => u8::from(why),
+            PlayRefusal::TextTooLong => 16,
+        }
+    }
+}
+
+/// Its record is wrong, or the state refuses it.
+#[derive(Clone, Copy, Debug, PartialEq, Eq)]
+pub(crate) enum EventRefusal {
+    RecordWrong,
+    Event(Refusal),
+}
+
+impl From<Refusal> for EventRefusal {
+    ghost from_gives = { λ why refusal. refusal ≡ event.Event why };
+
+    fn from(why: Refusal) -> EventRefusal {
+        EventRefusal::Event(why)
+    }
+}
+
+impl From<EventRefusal> for u8 {
+    ghost from_gives = { λ refusal number. number ≡ event_number refusal };
+
+    fn from(refusal: EventRefusal) -> u8 {
+        match refusal {
+            EventRefusal::RecordWrong => u8::from(RecordRefusal::RecordWrong),
+            EventRefusal::Event(why) => u8::from(why),
         }
     }
 }

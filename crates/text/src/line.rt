@@ -13,7 +13,6 @@ use units::Tenths;
 pub const LONGEST: usize = 20 + 3 + 3 + 5 + 3 + 7 * 22 + 1;
 
 /// The bytes of one line. A caller makes it once and fills it again for each event, since a line given back by value is copied.
-// The length stands first and in eight bits: so the compiler sees that no byte is stored over it, and keeps it in a register.
 #[derive(Debug, Drop)]
 pub struct Line {
     length: u8,
@@ -76,7 +75,7 @@ impl Line {
     /// Its bytes.
     pub fn as_slice(&self) -> &[u8]
         ensures all { result.now ≡ self.now }
-        ensures within { length result.now ≤ LONGEST }
+        ensures within { length result.now ≤ 189 }
     {
         &self.bytes[..usize::from(self.length)]
     }
@@ -86,7 +85,7 @@ impl Line {
     #[tactic(auto, using(crate::proofs::WriteLaws::wholes))]
     pub fn put(&self, out: &mut [u8], at: usize) -> usize
         ensures out_after { (result, out.new) ≡ put_whole out.old at self.now }
-        ensures upper_bound { result ≤ at + LONGEST }
+        ensures upper_bound { result ≤ at + 189 }
     {
         let end = at.saturating_add(usize::from(self.length));
         if end <= out.len() {

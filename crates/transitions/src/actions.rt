@@ -31,6 +31,12 @@ pub struct Action {
     pub value: u64,
 }
 
+/// What stands in a slot that is not filled.
+pub const FREE: Action = Action {
+    kind: ActionKind::X,
+    value: 0,
+};
+
 /// The actions of an answer: an array beside the number filled.
 #[derive(Debug, Drop)]
 pub struct Actions {
@@ -51,10 +57,7 @@ impl Actions {
         ensures { result ≡ [] }
     {
         Actions {
-            slots: [Action {
-                kind: ActionKind::X,
-                value: 0,
-            }; 7],
+            slots: [FREE; 7],
             count: 0,
         }
     }

@@ -1,7 +1,7 @@
 //! What a running task keeps, and how it begins and goes on (the source's Task, its timers and its loops).
 //! Derived from level_control.rs of project-chip/rs-matter 43f61585a4 (see NOTICE), and changed.
 ghost use Rattle.std.specs.Prelude.{◌≡◌};
-ghost use Rattle.transitions.specs.Tasks.{after_fade, at_limit, begin_fade, due_wait, fade_asking, fade_from, fade_last, fade_left, fade_next, fade_start, fade_waiting, is_move_end, level_to_restore, move_asking, move_waiting, next_move, open_request};
+ghost use Rattle.transitions.specs.Tasks.{at_limit, begin_fade, due_wait, fade_asking, fade_from, fade_last, fade_left, fade_next, fade_start, fade_waiting, is_move_end, level_to_restore, move_asking, move_waiting, next_move, open_request};
 
 use crate::fade::{fade_period, is_transition_start, next_level, remaining_after, wait_or_ask};
 use crate::types::{Level, LevelRange, Mode};

@@ -1,6 +1,6 @@
 use Rattle.std.proofs.Common.{ℕ, ◌+◌, ◌<◌, List, ◌++◌, ◌≡◌, length, ap, sym, ◌∙◌, ⊎_elim, arith}
 use Rattle.text.specs.Text.{most}
-use Rattle.text.proofs.WriteLaws.{none_wrote, whole_next}
+use Rattle.text.proofs.WriteLaws.{none_wrote}
 use Rattle.level_control.specs.Answer.{Outcome}
 use Rattle.std.specs.declared.iter.Zip.{Zip}
 use Rattle.std.specs.declared.ops.RangeFrom.{RangeFrom}
@@ -22,14 +22,16 @@ loop-index-preserved c =
     let twenty = step.1.1 ∙ was.size in
     let fewer = counted l.index-iterator.b.rest.now first others step.1.0 twenty in
     let fits : length l.out < most = omega arith in
-    let given = c.record_event-number.ensures in
+    let given = c.record_event-answer.ensures in
     let line = c.write.new.self in
+    let shows : ℕ → ℕ → List ℕ =
+    λ at number. line_of at number c.record_event-answer.new.state.current_level c.record_event-answer.new.state.remaining_time c.record_event-answer.new.actions in
     let next : c.next.new.self.a.start ≡ start + 1 = c.in-Some.ensures.steps.0.1 ∙ ap (λ (n : ℕ). n + 1) index in
-    let more = rest (start + 1) c.record_event-number.new.state others in
+    let more = rest (start + 1) c.record_event-answer.new.state others in
     let e =
     turn_lines start l.state l.index-iterator.b.rest.now first others step.1.0 twenty
     ∙ ap (λ (o : Outcome). outcome_line start o ++ rest (start + 1) o.state others) (sym given)
-    ∙ ap (λ (x : List ℕ). x ++ more) (sym (c.write.ensures ∙ ap (λ (n : ℕ). line_of n c.record_event-number.result c.record_event-number.new.state.current_level c.record_event-number.new.state.remaining_time c.record_event-number.new.actions) index)) in
+    ∙ ap (λ (x : List ℕ). x ++ more) (sym (c.write.ensures ∙ ap (λ (n : ℕ). shows n c.record_number.result) index ∙ ap (λ (n : ℕ). shows start n) c.record_number.ensures)) in
     let placed = c.put-at.ensures.out_after in
     record {
       size = step.0 ∙ was.size;

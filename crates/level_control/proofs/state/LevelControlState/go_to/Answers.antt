@@ -1,13 +1,12 @@
 use Rattle.std.proofs.Common.{arith, refl, sym, ◌∙◌}
 use Rattle.transitions.specs.Actions.{reports_of}
 use Rattle.level_control.specs.Reports.{coupled_by}
-use Rattle.level_control.specs.State.{with_task}
 use Rattle.level_control.specs.Targets.{go_to}
 use Rattle.level_control.proofs.ActionLaws.{coupled_then_missing}
 use Rattle.level_control.proofs.state.LevelControlState.go_to.Goals as goal
 
 pub returns-in-Reached : goal.returns-in-Reached
-unfolding go_to with_task coupled_by reports_of
+unfolding go_to coupled_by reports_of
 returns-in-Reached c =
     let few = c.requires in
     rw (
