@@ -10,6 +10,7 @@ use std::io::{Read, Write};
 const MOST_READ: usize = 5_121;
 
 fn main(rt: HostRuntime) -> io::Result<()> {
+    // Fixed rooms: the longest play and the longest sheet are known.
     let mut records = [0; MOST_READ];
     let read = io::copy(
         &mut rt.reader().take(MOST_READ as u64),

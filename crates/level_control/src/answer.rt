@@ -8,7 +8,8 @@ use crate::state::LevelControlState;
 use transitions::actions::{Action, Actions, FREE};
 use transitions::causes::Refusal;
 
-/// The actions stand in an array, beside the number filled: the slots from `count` on hold X with value 0.
+/// A plain value, so the actions stand in an array, beside the number filled: the slots from `count` on hold X with
+/// value 0.
 #[derive(Clone, Copy, Debug, PartialEq, Eq)]
 pub struct Answer {
     pub refusal: Option<Refusal>,

@@ -25,6 +25,7 @@ impl From<ErrorCode> for u64 {
     ghost from_gives = { λ code number. number ≡ error_number code };
 
     fn from(code: ErrorCode) -> u64 {
+        // Its discriminant.
         code as u64
     }
 }

@@ -38,6 +38,7 @@ impl LevelControlState {
         Ok(())
     }
 
+    // The list is lent to all that follows, and is empty: given back by value it takes a third longer.
     #[tactic(auto, unfolding(crate::specs::Rest::reset_all))]
     fn follow(&mut self, course: Course, moment: Moment, actions: &mut Actions)
         requires { actions.old ≡ [] }

@@ -123,7 +123,7 @@ fn read_stop(bytes: &[u8; RECORD]) -> Option<Command>
     zeros_from(bytes, 15).then_some(Command::Stop(options))
 }
 
-/// The level counts with code 0 alone.
+/// The level counts with code 0 alone. The codes are a record's.
 fn read_answer(bytes: &[u8; RECORD]) -> Option<DeviceAnswer>
     ensures { result ≡ answer bytes.now }
 {
@@ -178,6 +178,7 @@ fn command_options(with_on_off: u8, mask: u8, over: u8) -> Option<CommandOptions
     })
 }
 
+/// 0 is up and 1 down; the codes are a record's.
 fn mode(byte: u8) -> Option<Mode>
     ensures { result ≡ mode_at byte }
 {

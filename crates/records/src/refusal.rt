@@ -16,6 +16,7 @@ impl From<RecordRefusal> for u8 {
     ghost from_gives = { λ refusal number. number ≡ refusal_number refusal };
 
     fn from(refusal: RecordRefusal) -> u8 {
+        // Its discriminant.
         refusal as u8
     }
 }

@@ -80,6 +80,7 @@ impl<R: Read + Drop> List<R> {
         let Some((n, m)) = two_numbers(head) else {
             return Ok(None);
         };
+        // Lengths have 32 bits in a head.
         let (n, m) = (n as usize, m as usize);
         let records = self.read_summed(n, records)?;
         let sheet = self.read_summed(m, sheet)?;

@@ -39,6 +39,7 @@ pub fn level_control_play(records: &[u8], out: &mut [u8]) -> i32
     ensures { (result, out.new) ≡ returned (play_of records.now out.old) }
 {
     match play(records, out) {
+        // At most 48,195.
         Ok(length) => length as i32,
         Err(why) => -i32::from(u8::from(why)),
     }

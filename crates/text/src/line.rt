@@ -146,7 +146,7 @@ impl Line {
         }
     }
 
-    /// A number in decimal, with no leading zeros. Most are small, and need no call.
+    /// A number in decimal, with no leading zeros. Most are small, and need no call; the library's writer is slower.
     fn append_number(&mut self, number: u64)
         requires { length self.old + length (digits number) ≤ LONGEST }
         ensures { self.new ≡ self.old ++ digits number }
@@ -179,7 +179,7 @@ impl Line {
         self.append_three(number % 1_000);
     }
 
-    /// The same below 1,000.
+    /// The same below 1,000. A digit fits in eight bits.
     #[tactic(auto, using(crate::proofs::DigitLaws::small))]
     fn append_small(&mut self, number: u64)
         requires small { number < 1000 }

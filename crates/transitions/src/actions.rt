@@ -25,6 +25,7 @@ pub enum ActionKind {
 }
 
 /// The value is the level of D, 0 or 1 of C, the time of W in µs, the number of E, and 0 of the others.
+// A letter and a number, as C reads them and the sheet shows them.
 #[derive(Clone, Copy, Debug, PartialEq, Eq)]
 pub struct Action {
     pub kind: ActionKind,
@@ -38,6 +39,7 @@ pub const FREE: Action = Action {
 };
 
 /// The actions of an answer: an array beside the number filled.
+// There is no heap, and the kit's `ArrayVec` is slower.
 #[derive(Debug, Drop)]
 pub struct Actions {
     slots: [Action; 7],

@@ -31,6 +31,7 @@ impl From<Refusal> for u8 {
     ghost from_gives = { λ refusal number. number ≡ refusal_number refusal };
 
     fn from(refusal: Refusal) -> u8 {
+        // Its discriminant.
         refusal as u8
     }
 }

@@ -33,7 +33,7 @@ pub struct SceneRequest {
     pub transition_time: Millis,
 }
 
-/// What the device answers to a request.
+/// What the device answers to a request: the three codes of a record, by name.
 #[derive(Clone, Copy, Debug, PartialEq, Eq)]
 pub enum DeviceAnswer {
     Level(u8),

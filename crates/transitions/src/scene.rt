@@ -5,7 +5,8 @@ ghost use Rattle.transitions.specs.Scene.{scene_level};
 
 use crate::types::Level;
 
-/// The pairs are read up to the shorter length; a value above 255 stands for none.
+/// The pairs are the first and the rest of two lent slices, and are read up to the shorter length; a value above 255
+/// stands for none.
 pub fn scene_level(ids: &[u32], values: &[u16]) -> Level
     ensures { result ≡ scene_level ids.now values.now }
 {

@@ -61,7 +61,7 @@ pub enum Task {
     OnReaction(OnReaction),
 }
 
-/// Whose request to the device is open; of a fade and a move also since when.
+/// Whose request to the device is open; of a fade and a move also since when, as their phases say in one of two cases.
 #[derive(Clone, Copy, Debug, PartialEq, Eq)]
 pub enum Request {
     StartUp,
@@ -89,6 +89,7 @@ pub struct FadeRequest {
 }
 
 /// How a fade begins: at its target already, from no level, or with a first request.
+// Two cases have no value, here and below: an `Option` would name neither.
 #[derive(Clone, Copy, Debug, PartialEq, Eq)]
 pub enum Begin {
     Reached,
@@ -191,6 +192,7 @@ impl Fade {
     }
 }
 
+// A fade and a move keep different values: what is said of both here is shorter than a trait.
 impl MoveCourse {
     /// With a request open.
     pub fn asking(self, asked: u8, now: Micros) -> Move

@@ -1,5 +1,5 @@
 //! The three units of time (docs/RULES.md, Units). Each is a type of its own, so that a count of tenths can never be
-//! given where milliseconds are meant; a conversion's name says how it rounds.
+//! given where milliseconds are meant; a conversion's name says how it rounds. Units are computed by these functions alone.
 #![tactic(auto)]
 
 ghost use Rattle.std.specs.Prelude.{◌≡◌};
@@ -64,6 +64,7 @@ impl Millis {
         ensures { result ≡ tenths_up self }
     {
         let tenths = self.0.div_ceil(100);
+        // What is left of the division fits.
         Tenths((tenths % 65_536) as u16)
     }
 
