@@ -5,7 +5,7 @@ ghost use Rattle.std.specs.Prelude.{◌≡◌};
 ghost use Rattle.level_control.specs.Answer.{answer_of};
 
 use crate::state::LevelControlState;
-use transitions::actions::{Action, Actions, FREE};
+use transitions::actions::{Action, Actions};
 use transitions::causes::Refusal;
 
 /// A plain value, so the actions stand in an array, beside the number filled: the slots from `count` on hold X with
@@ -25,7 +25,7 @@ impl Answer {
     {
         let list = list.as_slice();
         let count = list.len();
-        let mut actions = [FREE; 7];
+        let mut actions = [Action::default(); 7];
         actions[..count].copy_from_slice(list);
         Answer {
             refusal,

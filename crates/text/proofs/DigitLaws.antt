@@ -6,11 +6,13 @@ use mathlib.Core.List.{List, [], ◌∷◌, ◌++◌, append_assoc}
 use native.Mathlib.Nat.{pow-succ'}
 use native.Mathlib.Omega.{arith}
 use borrow.Author.Tests.{lt-ltb, le-ltb}
-use lib.ListN.{length, get_or, length-append, get_or-append}
-use Rattle.std.proofs.lemmas.Fmt.{decimal_by_steps}
+use lib.Dec.{lit≤, lit<}
+use lib.ListN.{length, get_or, length-append, get_or-append, take, drop}
+use Rattle.std.proofs.Math.Seq.{take-add, take-append_seam}
+use Rattle.std.proofs.lemmas.Fmt.{decimal_from_appends, length-decimal-le}
 use Rattle.std.proofs.lemmas.Grind.{common_steps}
 use Rattle.std.specs.Fmt.{decimal}
-use Rattle.text.specs.Text.{digits, digits_within, three_digits}
+use Rattle.text.specs.Text.{digits, digits_within}
 use Rattle.text.specs.Laws.{read_after, read_digits, All, Digit}
 use Rattle.text.proofs.WriteLaws.{by_test}
 
@@ -22,51 +24,9 @@ within_more : (k x : ℕ) → 10 ≤ x → digits_within (suc k) x ≡ digits_wi
 unfolding digits_within
 within_more k x h = rw (le-ltb x 10 h)
 
--- one place more than enough changes nothing
-enough : (k x : ℕ) → x < 10 ^ suc k → digits_within (suc (suc k)) x ≡ digits_within (suc k) x
-enough zero x h =
-    let small : x < 10 = omega arith in
-    within_one 1 x small ∙ sym (within_one 0 x small)
-enough (suc k) x h = by_test x 10
-    (λ g. within_one (suc (suc k)) x g ∙ sym (within_one (suc k) x g))
-    (λ g. rw (within_more (suc (suc k)) x g, within_more (suc k) x g, enough k (x / 10) (omega (arith, pow-succ' 10 (suc k)))))
-
 pub digits_one : (x : ℕ) → x < 10 → digits x ≡ (code "0" + x) ∷ []
 unfolding digits
 digits_one x h = within_one 19 x h
-
-pub digits_more : (x : ℕ) → x < 2 ^ 64 → 10 ≤ x → digits x ≡ digits (x / 10) ++ ((code "0" + x % 10) ∷ [])
-unfolding digits
-digits_more x b h = within_more 19 x h ∙ ap (λ (l : List ℕ). l ++ ((code "0" + x % 10) ∷ [])) (sym (enough 18 (x / 10) (omega arith)))
-
--- Digits two and three at a time.
-
-pub digits_two : (x : ℕ) → 10 ≤ x → x < 100 → digits x ≡ (code "0" + x / 10) ∷ (code "0" + x % 10) ∷ []
-digits_two x h g = digits_more x (omega arith) h ∙ rw (digits_one (x / 10) (omega arith))
-
-pub digits_three : (x : ℕ) → 100 ≤ x → x < 1000 → digits x ≡ three_digits x
-digits_three x h g =
-    let first : x / 10 / 10 ≡ x / 100 = omega arith in
-    digits_more x (omega arith) (omega arith) ∙ rw (digits_two (x / 10) (omega arith) (omega arith), first)
-
-pub digits_thousands : (x : ℕ) → x < 2 ^ 64 → 1000 ≤ x → digits x ≡ digits (x / 1000) ++ three_digits (x % 1000)
-digits_thousands x b h =
-    let thousands : x / 10 / 10 / 10 ≡ x / 1000 = omega arith in
-    let third : x / 10 / 10 % 10 ≡ x % 1000 / 100 = omega arith in
-    let second : x / 10 % 10 ≡ x % 1000 / 10 % 10 = omega arith in
-    let first : x % 10 ≡ x % 1000 % 10 = omega arith in
-    digits_more x b (omega arith)
-    ∙ rw (digits_more (x / 10) (omega arith) (omega arith), digits_more (x / 10 / 10) (omega arith) (omega arith), thousands, third, second, first)
-    (simp append_assoc)
-
-pub digits_millions : (x : ℕ) → x < 2 ^ 64 → 1000000 ≤ x → digits x ≡ digits (x / 1000000) ++ three_digits (x / 1000 % 1000) ++ three_digits (x % 1000)
-digits_millions x b h =
-    let millions : x / 1000 / 1000 ≡ x / 1000000 = omega arith in
-    digits_thousands x b (omega arith) ∙ rw (digits_thousands (x / 1000) (omega arith) (omega arith), millions)
-
-pub ruleset small = (digits_one, digits_two, digits_three, append_assoc, length-append, common_steps)
-
-pub ruleset millions = (digits_thousands, digits_millions, append_assoc, length-append, common_steps)
 
 -- a number below 10^(k+1) has at most k+1 digits, and none has more than 20
 
@@ -143,7 +103,37 @@ first_digit x b h e = omega (arith, within_first 19 x (omega arith) (omega arith
 
 -- the library's decimal is the same
 pub digits_decimal : (x : ℕ) → x < 2 ^ 64 → digits x ≡ decimal x
-digits_decimal x h = decimal_by_steps (λ n ds. n < 2 ^ 64 → digits n ≡ ds)
-    (λ n g b. digits_one n g)
-    (λ n ds g e b. digits_more n b g ∙ ap (λ (l : List ℕ). l ++ ((code "0" + n % 10) ∷ [])) (e (omega arith)))
-    x h h
+unfolding digits
+digits_decimal x h = decimal_from_appends digits_within (record { one = within_one; more = within_more }) 20 x h (length-decimal-le 20 x (lit< tt) (omega arith) h)
+
+-- a number from 10^k on and below 10^(k+1) has k+1 digits
+ten_some : (m : ℕ) → 1 ≤ 10 ^ m
+ten_some zero = lit≤ tt
+ten_some (suc m) = omega (arith, pow-succ' 10 m, ten_some m)
+
+within_count : (m k x : ℕ) → x < 10 ^ suc k → 10 ^ m ≤ x → suc m ≤ length (digits_within (suc k) x)
+within_count zero k x h g = within_some k x
+within_count (suc m) zero x h g = omega (arith, pow-succ' 10 m, ten_some m)
+within_count (suc m) (suc k) x h g =
+    let ten : 10 ≤ x = omega (arith, pow-succ' 10 m, ten_some m) in
+    rw (within_more (suc k) x ten, length-append) (omega (arith, within_count m k (x / 10) (omega (arith, pow-succ' 10 (suc k))) (omega (arith, pow-succ' 10 m))))
+
+pub counted_log : (m x : ℕ) → x < 2 ^ 64 → 10 ^ m ≤ x → x < 10 * 10 ^ m → suc m ≡ length (digits x)
+unfolding digits
+counted_log m x b g h = omega (arith, within_count m 19 x (omega arith) g, within_length 20 m x (omega (arith, pow-succ' 10 m)))
+
+pub counted_zero : 1 ≡ length (digits 0)
+counted_zero = ap length (sym (digits_one 0 (lit< tt)))
+
+pub ruleset counted = (counted_log, counted_zero, common_steps)
+
+-- digits that stand from r on, and end where the line then ends
+pub digits_stand : (old new : List ℕ) (r k x : ℕ) → x < 2 ^ 64 → k ≡ length (digits x) → take r new ≡ take r old → drop r new ≡ decimal x ++ drop (r + k) old
+    → take (r + k) new ≡ take r old ++ digits x
+digits_stand old new r k x b e t d =
+    take-add r k new ∙ rw (t, d, sym (digits_decimal x b), e, take-append_seam (digits x) (drop (r + length (digits x)) old))
+
+pub decimal_length : (x : ℕ) → x < 2 ^ 64 → length (decimal x) ≡ length (digits x)
+decimal_length x h = ap length (sym (digits_decimal x h))
+
+pub ruleset writes = (digits_decimal, decimal_length, digits_stand, common_steps)

@@ -35,7 +35,3 @@ digits_within (suc k) x = cond (ltb x 10) ((code "0" + x) ∷ []) (digits_within
 -- the digits of a number of 64 bits: none has more than 20
 unfoldable pub digits : ℕ → List ℕ
 digits x = digits_within 20 x
-
--- the digits of a number below 1000, with leading zeros
-abbrev pub three_digits : ℕ → List ℕ
-three_digits x = (code "0" + x / 100) ∷ (code "0" + x / 10 % 10) ∷ (code "0" + x % 10) ∷ []

@@ -1,9 +1,10 @@
 //! A line of the sheet: index, number, level or `-`, remaining tenths, actions; single spaces between, a line feed after.
 ghost use Rattle.std.specs.Prelude.{◌≡◌, ◌+◌, ◌*◌, ◌<◌, ◌≤◌, [], ◌∷◌, ◌++◌, length};
 ghost use Rattle.text.specs.Line.{action_text, actions_text, letter_of, level_text, line_of, refusal_line, shows_value};
-ghost use Rattle.text.specs.Text.{ascii, digits, put_whole, three_digits};
+ghost use Rattle.text.specs.Text.{ascii, digits, put_whole};
 ghost use Rattle.text.specs.declared.line.TheConstants.{LONGEST};
 
+use itoa::write_digits;
 use std::marker::Model;
 use transitions::actions::{Action, ActionKind, Actions};
 use units::Tenths;
@@ -15,7 +16,7 @@ pub const LONGEST: usize = 20 + 3 + 3 + 5 + 3 + 7 * 22 + 1;
 /// The bytes of one line. A caller makes it once and fills it again for each event, since a line given back by value is copied.
 #[derive(Debug, Drop)]
 pub struct Line {
-    length: u8,
+    length: usize,
     bytes: [u8; LONGEST],
 }
 
@@ -77,7 +78,7 @@ impl Line {
         ensures all { result.now ≡ self.now }
         ensures within { length result.now ≤ 189 }
     {
-        &self.bytes[..usize::from(self.length)]
+        &self.bytes[..self.length]
     }
 
     /// Writes the line into `out` from `at` on if all of it has room there, else nothing; in both cases gives the position past
@@ -87,7 +88,7 @@ impl Line {
         ensures out_after { (result, out.new) ≡ put_whole out.old at self.now }
         ensures upper_bound { result ≤ at + 189 }
     {
-        let end = at.saturating_add(usize::from(self.length));
+        let end = at.saturating_add(self.length);
         if end <= out.len() {
             out[at..end].copy_from_slice(self.as_slice());
         }
@@ -101,7 +102,7 @@ impl Line {
         self.length = 0;
         self.append_number(index);
         self.append_byte(b' ');
-        self.append_small(u64::from(number));
+        self.append_number(u64::from(number));
     }
 
     fn end(&mut self)
@@ -118,7 +119,7 @@ impl Line {
         ensures room { length self.new ≤ length self.old + 3 }
     {
         match level {
-            Some(level) => self.append_small(u64::from(level)),
+            Some(level) => self.append_number(u64::from(level)),
             None => self.append_byte(b'-'),
         }
     }
@@ -146,74 +147,33 @@ impl Line {
         }
     }
 
-    /// A number in decimal, with no leading zeros. Most are small, and need no call; the library's writer is slower.
+    /// A number in decimal, with no leading zeros.
+    #[inline]
+    #[tactic(auto, using(crate::proofs::DigitLaws::writes))]
     fn append_number(&mut self, number: u64)
         requires { length self.old + length (digits number) ≤ LONGEST }
         ensures { self.new ≡ self.old ++ digits number }
     {
-        if number < 1_000 {
-            self.append_small(number);
-        } else {
-            self.append_large(number);
-        }
-    }
-
-    /// The same from 1,000 on: its millions, and then six digits.
-    #[tactic(auto, using(crate::proofs::DigitLaws::millions))]
-    fn append_large(&mut self, number: u64)
-        requires large { 1000 ≤ number }
-        requires room { length self.old + length (digits number) ≤ LONGEST }
-        ensures { self.new ≡ self.old ++ digits number }
-    {
-        if number < 1_000_000 {
-            self.append_small(number / 1_000);
-        } else {
-            let millions = number / 1_000_000;
-            if millions < 1_000 {
-                self.append_small(millions);
-            } else {
-                self.append_large(millions);
-            }
-            self.append_three(number / 1_000 % 1_000);
-        }
-        self.append_three(number % 1_000);
-    }
-
-    /// The same below 1,000. A digit fits in eight bits.
-    #[tactic(auto, using(crate::proofs::DigitLaws::small))]
-    fn append_small(&mut self, number: u64)
-        requires small { number < 1000 }
-        requires room { length self.old + length (digits number) ≤ LONGEST }
-        ensures { self.new ≡ self.old ++ digits number }
-    {
-        if number < 10 {
-            self.append_byte(b'0' + number as u8);
-        } else if number < 100 {
-            self.append_byte(b'0' + (number / 10) as u8);
-            self.append_byte(b'0' + (number % 10) as u8);
-        } else {
-            self.append_three(number);
-        }
-    }
-
-    /// All three digits, also where the first are 0.
-    fn append_three(&mut self, number: u64)
-        requires small { number < 1000 }
-        requires room { length self.old + 3 ≤ LONGEST }
-        ensures { self.new ≡ self.old ++ three_digits number }
-    {
-        self.append_byte(b'0' + (number / 100) as u8);
-        self.append_byte(b'0' + (number / 10 % 10) as u8);
-        self.append_byte(b'0' + (number % 10) as u8);
+        let end = self.length + digits_length(number);
+        write_digits(number, &mut self.bytes, end);
+        self.length = end;
     }
 
     fn append_byte(&mut self, byte: u8)
         requires { length self.old < LONGEST }
         ensures { self.new ≡ self.old ++ byte ∷ [] }
     {
-        self.bytes[usize::from(self.length)] = byte;
+        self.bytes[self.length] = byte;
         self.length += 1;
     }
+}
+
+/// How many digits it has; 0 has one.
+#[tactic(auto, using(crate::proofs::DigitLaws::counted))]
+fn digits_length(number: u64) -> usize
+    ensures { result ≡ length (digits number) }
+{
+    number.checked_ilog10().map_or(1, |log| log as usize + 1)
 }
 
 fn letter(kind: ActionKind) -> u8

@@ -1,3 +1,4 @@
+pub mod ActionLaws
 pub mod Booleans
 pub mod SearchLaws
 pub mod SceneLaws

@@ -1,16 +1,17 @@
 //! What an event does, in order.
 //! Derived from level_control.rs of project-chip/rs-matter 43f61585a4 (see NOTICE), and changed: its calls are actions here.
-ghost use Rattle.std.specs.Prelude.{◌≡◌, ◌≤◌, List, [], ◌++◌, length, take};
+ghost use Rattle.std.specs.Prelude.{◌≡◌, ◌≤◌, List, [], ◌++◌, length};
 ghost use Rattle.transitions.specs.Actions.{held, held_coupled, held_if};
 ghost use Rattle.transitions.specs.Events.{act};
 ghost use Rattle.transitions.specs.declared.actions.Action.{Action};
 
+use arrayvec::ArrayVec;
 use std::marker::Model;
 
 /// D asks the device for a level, P stores a changed level, S is the scene's notice, C sends on/off to the coupled
 /// cluster, L reports the level, R the remaining time, W waits until a time, E ends in an error, K stores a setting, and
 /// X reports the whole cluster and removes its record.
-#[derive(Clone, Copy, Debug, PartialEq, Eq)]
+#[derive(Clone, Copy, Debug, Default, PartialEq, Eq)]
 pub enum ActionKind {
     D,
     P,
@@ -21,37 +22,29 @@ pub enum ActionKind {
     W,
     E,
     K,
+    #[default]
     X,
 }
 
-/// The value is the level of D, 0 or 1 of C, the time of W in µs, the number of E, and 0 of the others.
+/// The value is the level of D, 0 or 1 of C, the time of W in µs, the number of E, and 0 of the others. The default, X with 0,
+/// stands in a slot that is not filled.
 // A letter and a number, as C reads them and the sheet shows them.
-#[derive(Clone, Copy, Debug, PartialEq, Eq)]
+#[derive(Clone, Copy, Debug, Default, PartialEq, Eq)]
 pub struct Action {
     pub kind: ActionKind,
     pub value: u64,
 }
 
-/// What stands in a slot that is not filled.
-pub const FREE: Action = Action {
-    kind: ActionKind::X,
-    value: 0,
-};
-
-/// The actions of an answer: an array beside the number filled.
-// There is no heap, and the kit's `ArrayVec` is slower.
+/// The actions of an answer, at most seven.
 #[derive(Debug, Drop)]
 pub struct Actions {
-    slots: [Action; 7],
-    count: usize,
+    list: ArrayVec<Action, 7>,
 }
 
 impl Model for Actions {
     ghost Value = { List Action };
 
-    ghost view = { λ actions. take actions.count actions.slots };
-
-    ghost invariant = { λ actions. actions.count ≤ 7 };
+    ghost view = { λ actions. actions.list.items };
 }
 
 impl Actions {
@@ -59,24 +52,23 @@ impl Actions {
         ensures { result ≡ [] }
     {
         Actions {
-            slots: [FREE; 7],
-            count: 0,
+            list: ArrayVec::new(),
         }
     }
 
     pub fn clear(&mut self)
         ensures { self.new ≡ [] }
     {
-        self.count = 0;
+        self.list.clear();
     }
 
     /// Adds an action; a full list drops it, and no event gives more (`every_event_holds`).
+    #[tactic(auto, using(crate::proofs::ActionLaws::full))]
     pub fn push(&mut self, kind: ActionKind, value: u64)
         ensures { self.new ≡ held (self.old ++ act kind value) }
     {
-        if self.count < self.slots.len() {
-            self.slots[self.count] = Action { kind, value };
-            self.count += 1;
+        if !self.list.is_full() {
+            self.list.push(Action { kind, value });
         }
     }
 
@@ -102,6 +94,6 @@ impl Actions {
         ensures all { result.now ≡ self.now }
         ensures within { length result.now ≤ 7 }
     {
-        &self.slots[..self.count]
+        self.list.as_slice()
     }
 }
