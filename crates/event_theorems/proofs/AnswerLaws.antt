@@ -1,7 +1,7 @@
 -- What a device's answer gives, by field and by letter. Assumes nothing.
 use Rattle.std.specs.Prelude.{Option, Some, None, ℕ, Bool}
 use Prim.Native.Nat.{ℕ, ◌-◌, ◌*◌}
-use mathlib.Core.Bool.{Bool, true, false, cond, not, ◌&&◌, ◌||◌, false≢true}
+use mathlib.Core.Bool.{Bool, true, false, cond, not, ◌&&◌, ◌||◌, false≢true, and-false}
 use mathlib.Core.Path.{◌≡◌, refl, sym, ap, ◌∙◌}
 use mathlib.Core.List.{List, [], ◌++◌, append-nil, append_assoc}
 use lib.Dec.{eqb, leb}
@@ -46,7 +46,7 @@ use Rattle.event_theorems.specs.Course as course
 use Rattle.event_theorems.specs.Course.{Course, course_letter, task_on, towards}
 use Rattle.event_theorems.specs.Fields.{next_state}
 use Rattle.event_theorems.specs.Letters.{back_letters, couples, couples_reached, leaves_min, move_on_couples, on_reached, letters}
-use Rattle.event_theorems.proofs.CommandLaws.{never, goes, go_to_is, move_is, changed_to, changed_away, changed_is, told_letters}
+use Rattle.event_theorems.proofs.CommandLaws.{goes, go_to_is, move_is, changed_to, changed_away, changed_is, told_letters}
 use Rattle.event_theorems.proofs.RunLaws.{gives}
 
 -- the state with a task of its own: for the task that it has, the state itself
@@ -318,7 +318,7 @@ module _ (s : LevelControlState) (at : Micros) (on : Bool) where
         letters_are : (level : ℕ) → first (target s level) ++ course_letter (onward level)
             ≡ reports_of t.reports ++ (coupling (target s level) ++ course_letter (onward level))
         letters_are level =
-            ap (λ (b : Bool). reports_of t.reports ++ coupling (target s level) ++ act_if b L ++ course_letter (onward level)) (never (eqb v (target s level)))
+            ap (λ (b : Bool). reports_of t.reports ++ coupling (target s level) ++ act_if b L ++ course_letter (onward level)) (and-false (eqb v (target s level)))
             ∙ ap (λ (z : List Action). z ++ course_letter (onward level)) (append-nil (reports_of t.reports ++ coupling (target s level)))
             ∙ append_assoc (reports_of t.reports) (coupling (target s level)) (course_letter (onward level))
 

@@ -1,7 +1,8 @@
 -- What every event gives, cause by cause, field by field and letter by letter. Assumes nothing.
 use Prim.Native.Nat.{ℕ}
-use mathlib.Core.Bool.{Bool, true, false, not}
-use mathlib.Core.Path.{◌≡◌, refl, sym, ap, ◌∙◌}
+use mathlib.Core.Bool.{Bool, false}
+use mathlib.Core.Path.{◌≡◌, sym, ap, ◌∙◌}
+use Rattle.std.proofs.lemmas.Bool.{not-false}
 use Rattle.units.specs.declared.Micros.{Micros}
 use Rattle.transitions.specs.Tasks.{task_open}
 use Rattle.transitions.specs.declared.events.Event.{Event}
@@ -21,10 +22,6 @@ use Rattle.event_theorems.proofs.RunLaws.{gives, move_to_level_gives, move_gives
 use Rattle.event_theorems.proofs.AnswerLaws.{answer_gives}
 use Rattle.transitions.specs.declared.events.Command.TheVariants as command
 
-not_true : (b : Bool) → not b ≡ false → b ≡ true
-not_true true e = refl
-not_true false e = sym e
-
 module _ (s : LevelControlState) (at : Micros) (on : Bool) where
   run_gives : (k : EventKind) → TurnPasses (turn_tests s at k) → CommandPasses (command_tests_of s on k)
       → run (accept s at) k at on ≡ gives s (brings s k) at on
@@ -34,7 +31,7 @@ module _ (s : LevelControlState) (at : Micros) (on : Bool) where
   run_gives (kind.Command (command.Move r)) turn command = move_gives s at on r command.valid
   run_gives (kind.Command (command.Step r)) turn command = step_gives s at on r command.in_state command.fits
   run_gives (kind.Command (command.Stop r)) turn command = stop_gives s at on
-  run_gives (kind.Answer a) turn command = answer_gives s a at on (not_true (task_open s.task) turn.opened)
+  run_gives (kind.Answer a) turn command = answer_gives s a at on (not-false (task_open s.task) turn.opened)
   run_gives kind.Wake turn command = wake_gives s at on
   run_gives (kind.Command (command.OnOffChanged value)) turn command = turned_gives s at on value
   run_gives (kind.Command (command.Scene r)) turn command = scene_gives s at on r

@@ -1,7 +1,7 @@
 -- What begins a task, or goes on with one, by field and by letter. Assumes nothing.
 use Rattle.std.specs.Prelude.{Some, None}
 use Prim.Native.Nat.{ℕ, ◌+◌, ◌-◌}
-use mathlib.Core.Bool.{Bool, true, false, cond, not, ◌&&◌}
+use mathlib.Core.Bool.{Bool, true, false, cond, not, ◌&&◌, and-false}
 use mathlib.Core.Path.{◌≡◌, refl, sym, ap, ◌∙◌}
 use mathlib.Core.List.{List, [], ◌++◌, append-nil, append_assoc}
 use native.Mathlib.Omega.{arith}
@@ -103,10 +103,6 @@ go_to_is t r at on None e =
 
 -- a request that leaves MIN upwards
 
-pub never : (b : Bool) → (b && false) ≡ false
-never true = refl
-never false = refl
-
 leaves_up : (s : LevelControlState) (c : ℕ) (with_on_off on : Bool) → s.current_level ≡ Some c
     → moves.leaves_min s (c + 1) with_on_off on ≡ cond (eqb c s.settings.range.min && true) (couples s.settings with_on_off on (c + 1)) None
 unfolding moves.leaves_min coupled_by
@@ -140,7 +136,7 @@ move_is t m at on l e = ap (λ (x : Level). move_by (next_move x m.mode) t m at 
         ≡ goes t.state (cond b (course.Asks (c + 1) (task.Move (record { course = m; asked = c + 1; phase = Asked at }))) course.AtRest)
         (reports_of t.reports ++ act_coupled (cond (eqb c t.state.settings.range.min && b) (couples t.state.settings m.with_on_off on (c + 1)) None))
     up c e true = same_actions _ _ _ (rw (leaves_up t.state c m.with_on_off on e) refl)
-    up c e false = same_actions _ _ _ (rw (never (eqb c t.state.settings.range.min)) (sym (append-nil _ ∙ append-nil _)))
+    up c e false = same_actions _ _ _ (rw (and-false (eqb c t.state.settings.range.min)) (sym (append-nil _ ∙ append-nil _)))
 
     down : (c : ℕ) → t.state.current_level ≡ Some c → (b : Bool) → move_by (cond b (step.Asks (c - 1)) step.Ends) t m at on
         ≡ goes t.state (cond b (course.Asks (c - 1) (task.Move (record { course = m; asked = c - 1; phase = Asked at }))) course.AtRest)

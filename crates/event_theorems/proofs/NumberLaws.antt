@@ -1,8 +1,8 @@
 -- The machine's number is that of the first cause of the table, and its options are the table's. Assumes nothing.
 use Rattle.std.specs.Prelude.{Some, None, Ok, Err}
 use Prim.Native.Nat.{ℕ, ◌*◌, ◌/◌}
-use mathlib.Core.Bool.{Bool, true, false, cond, not, ◌&&◌, ◌||◌}
-use mathlib.Core.Path.{◌≡◌, refl, ap, ◌∙◌}
+use mathlib.Core.Bool.{Bool, true, false, cond, not, ◌&&◌, or-false}
+use mathlib.Core.Path.{◌≡◌, refl, ap, ◌∙◌, sym}
 use lib.Dec.{eqb, ltb}
 use Rattle.units.specs.Units.{tenths, scaled_floor}
 use Rattle.units.specs.declared.Micros.{Micros}
@@ -115,10 +115,6 @@ product_is s r = from s.current_level
         none (Some t) = refl
         none None = refl
 
-or_nothing : (b : Bool) → b ≡ (b || false)
-or_nothing true = refl
-or_nothing false = refl
-
 module _ (s : LevelControlState) (at : Micros) (on : Bool) where
   number_at : (k : EventKind) → number_of s (event at on k) ≡ number_by s (event at on k)
   unfolding number_of number_by first_cause turn_tests time_refused command_tests_of move_to_level_tests move_tests step_tests stop_tests scene_tests level_tests rate_tests
@@ -150,10 +146,10 @@ module _ (s : LevelControlState) (at : Micros) (on : Bool) where
   unfolding command_tests_of move_to_level_tests move_tests step_tests stop_tests scene_tests level_tests rate_tests
   stopped_at kind.StartUp = refl
   stopped_at (kind.Command (command.MoveToLevel r)) =
-      rw (continues_is s r.options.with_on_off on r.options.options_mask r.options.options_override) (or_nothing _)
-  stopped_at (kind.Command (command.Move r)) = rw (continues_is s r.options.with_on_off on r.options.options_mask r.options.options_override) (or_nothing _)
-  stopped_at (kind.Command (command.Step r)) = rw (continues_is s r.options.with_on_off on r.options.options_mask r.options.options_override) (or_nothing _)
-  stopped_at (kind.Command (command.Stop r)) = rw (continues_is s r.with_on_off on r.options_mask r.options_override) (or_nothing _)
+      rw (continues_is s r.options.with_on_off on r.options.options_mask r.options.options_override) (sym (or-false _))
+  stopped_at (kind.Command (command.Move r)) = rw (continues_is s r.options.with_on_off on r.options.options_mask r.options.options_override) (sym (or-false _))
+  stopped_at (kind.Command (command.Step r)) = rw (continues_is s r.options.with_on_off on r.options.options_mask r.options.options_override) (sym (or-false _))
+  stopped_at (kind.Command (command.Stop r)) = rw (continues_is s r.with_on_off on r.options_mask r.options_override) (sym (or-false _))
   stopped_at (kind.Answer a) = refl
   stopped_at kind.Wake = refl
   stopped_at (kind.Command (command.OnOffChanged value)) = refl
@@ -161,7 +157,7 @@ module _ (s : LevelControlState) (at : Micros) (on : Bool) where
     where
       by : (l : Level) → stopped_in s (event at on (kind.Command (command.Scene (record { level = l; transition_time = r.transition_time }))))
           ≡ stopped s (event at on (kind.Command (command.Scene (record { level = l; transition_time = r.transition_time }))))
-      by (Some level) = rw (continues_is s false on (record { 0 = 0 }) (record { 0 = 0 })) (or_nothing _)
+      by (Some level) = rw (continues_is s false on (record { 0 = 0 }) (record { 0 = 0 })) (sym (or-false _))
       by None = refl
   stopped_at (kind.Command (command.DeviceUpdate level)) = refl
   stopped_at (kind.Command command.DeviceStop) = refl

@@ -1,11 +1,11 @@
 -- What an event that is no answer gives, by field and by letter. Assumes nothing.
 use Rattle.std.specs.Prelude.{Some, None, Result, Ok, ℕ}
-use Prim.Native.Nat.{ℕ, ◌≤◌}
+use Prim.Native.Nat.{ℕ}
 use mathlib.Core.Bool.{Bool, true, false, cond, ◌&&◌, true≢false}
 use mathlib.Core.Path.{◌≡◌, refl, sym, ap, ◌∙◌}
 use mathlib.Core.List.{List, [], ◌++◌, append-nil, append_assoc}
-use native.Mathlib.Omega.{arith}
 use borrow.Author.Tests.{eqb-false}
+use Rattle.std.proofs.Math.Nat.{pos_of_ne-zero}
 use Rattle.units.specs.Units.{tenths}
 use Rattle.units.specs.declared.Micros.{Micros}
 use Rattle.units.specs.declared.Tenths.{Tenths}
@@ -64,10 +64,7 @@ rate_goes s r valid =
     matter_agrees.rate r.rate s.attributes.default_move_rate s.settings.fastest_rate
     (let n = move_rate r.rate s.attributes.default_move_rate s.settings.fastest_rate in
     let some : n ≡ 0 → ⊥ = eqb-false n 0 (sym (rate_is s r) ∙ valid) in
-    by n some)
-  where
-    by : (n : ℕ) → (n ≡ 0 → ⊥) → 1 ≤ n
-    by n h = omega arith
+    pos_of_ne-zero some)
 
 -- what the pages say that an event gives
 abbrev pub gives : LevelControlState → Brings → Micros → Bool → Outcome

@@ -9,6 +9,7 @@ use borrow.Author.Tests.{eqb-true, eq-eqb, ne_eqb}
 use lib.Dec.{eqb}
 use lib.ListN.{length, take}
 use lib.Seq.{take_all, take_at}
+use Rattle.std.proofs.lemmas.Bool.{and_parts}
 use Rattle.units.specs.declared.Micros.{Micros}
 use Rattle.transitions.specs.Events.{event}
 use Rattle.transitions.specs.Fade.{fade_period}
@@ -24,7 +25,6 @@ use Rattle.transitions.specs.declared.tasks.Phase.TheVariants.{Asked, Waiting}
 use Rattle.transitions.specs.declared.tasks.Task.{Task}
 use Rattle.transitions.specs.declared.tasks.Task.TheVariants as task
 use Rattle.transitions.specs.Types.{Level}
-use Rattle.transitions.proofs.Booleans.{and_first, and_second}
 use Rattle.level_control.specs.Answer.{Outcome}
 use Rattle.level_control.specs.Targets.{go_to}
 use Rattle.level_control.specs.Events.{number_of, event_of}
@@ -82,7 +82,7 @@ module _ (c t T : ℕ) (pos : 1 ≤ T) (small : T ≤ 65535) where
   goes_on [] r w h = h
   goes_on (e ∷ es) r w h =
       let one = not (accepted r.state e) || is_onward e.kind in
-      goes_on es (next r e) (and_second one (only_onward (next r e) es) w) (keep c t T pos small r e (and_first one (only_onward (next r e) es) w) h)
+      goes_on es (next r e) (and_parts one (only_onward (next r e) es) w).1 (keep c t T pos small r e (and_parts one (only_onward (next r e) es) w).0 h)
 
   resting : (s : LevelControlState) (asked : List ℕ) (k : ℕ) (p : Pending)
       → (k ≡ distance t c) × (asked ≡ path c t) × (s.remaining_time.0 ≡ 0) × (p ≡ Nothing)

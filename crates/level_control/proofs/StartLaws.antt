@@ -1,13 +1,14 @@
 -- Where `start_of` and `on_start` name a fade, the machine starts it. Assumes nothing.
 use Rattle.std.specs.Prelude.{Some, None, Result, Ok}
 use Prim.Native.Nat.{ℕ, ◌+◌, ◌-◌, ◌*◌, ◌/◌, min, max}
-use mathlib.Core.Bool.{Bool, true, false, cond, not, ◌&&◌, ◌||◌, true≢false, false≢true}
+use mathlib.Core.Bool.{Bool, true, false, cond, not, ◌&&◌, ◌||◌, true≢false, false≢true, and-false}
 use mathlib.Core.Path.{◌≡◌, refl, sym, ap, ◌∙◌}
 use mathlib.Core.List.{List, [], ◌∷◌, ◌++◌}
 use mathlib.Core.Logic.{◌⊎◌, inl, inr}
 use native.Mathlib.Omega.{arith}
 use borrow.Author.Tests.{eqb-false, eq-eqb, ne_eqb, leb-true, lt-leb, not-true}
 use lib.Dec.{eqb, leb, ltb}
+use Rattle.std.proofs.lemmas.Bool.{and_parts}
 use Rattle.units.specs.Numbers.{apart}
 use Rattle.units.specs.Units.{tenths, tenths_down, scaled_floor}
 use Rattle.units.specs.declared.Micros.{Micros}
@@ -34,7 +35,6 @@ use Rattle.transitions.specs.declared.types.Mode.{Mode}
 use Rattle.transitions.specs.declared.types.Mode.TheVariants.{Up, Down}
 use Rattle.transitions.specs.declared.types.OptionsBitmap.{OptionsBitmap}
 use Rattle.transitions.specs.Types.{Time}
-use Rattle.transitions.proofs.Booleans.{and_first, and_second}
 use Rattle.transitions.proofs.MatterLaws.{matter_agrees}
 use Rattle.level_control.specs.State.{accept, with_task}
 use Rattle.transitions.specs.Actions.{reports_of}
@@ -109,11 +109,7 @@ not_stopped level x e = go (leb 255 level) refl x e
   where
     go : (b : Bool) → leb 255 level ≡ b → (x : Bool) → (leb 255 level || x) ≡ true → (consults_options level && not x) ≡ false
     go true q x e = rw (lt-leb level 254 (leb-true 255 level q)) refl
-    go false q true e = by (leb level 254)
-      where
-        by : (b : Bool) → (b && false) ≡ false
-        by true = refl
-        by false = refl
+    go false q true e = and-false (leb level 254)
     go false q false e = absurd (false≢true (rw q at e))
 
 -- a step's level and its time, the time where it is not refused
@@ -310,8 +306,8 @@ on_is s at on z = event_runs s (event at on (kind.Command (command.OnOffChanged 
 pub refused_stays : (s : LevelControlState) (es : List Event) → all_refused s es ≡ true → state_after s es ≡ s
 refused_stays s [] h = refl
 refused_stays s (e ∷ es) h =
-    let first : not (accepted s e) ≡ true = and_first (not (accepted s e)) (all_refused (event_of s e).state es) h in
-    let others : all_refused (event_of s e).state es ≡ true = and_second (not (accepted s e)) (all_refused (event_of s e).state es) h in
+    let first : not (accepted s e) ≡ true = (and_parts (not (accepted s e)) (all_refused (event_of s e).state es) h).0 in
+    let others : all_refused (event_of s e).state es ≡ true = (and_parts (not (accepted s e)) (all_refused (event_of s e).state es) h).1 in
     let ne : number_of s e ≡ 0 → ⊥ = λ z. true≢false (sym (eq-eqb (event_of s e).number 0 (event_number s e ∙ z)) ∙ not-true (accepted s e) first) in
     let same : (event_of s e).state ≡ s = ap (λ (o : Outcome). o.state) (event_refused s e ne) in
     refused_stays (event_of s e).state es others ∙ same

@@ -52,6 +52,7 @@ pub(crate) enum Course {
     Reset,
 }
 
+// Three clauses, here and of what is under it: a definition of all three would be unfolded by each caller.
 impl LevelControlState {
     #[tactic(auto, unfolding(crate::specs::Events::event_of, crate::specs::Events::number_of, crate::specs::Events::run, crate::specs::Events::answered, crate::specs::Events::woken, crate::specs::Causes::turn_tests, crate::specs::Causes::time_refused, crate::specs::Causes::command_tests_of, transitions::specs::Causes::first_cause))]
     pub(crate) fn judge(&self, event: Event) -> Result<Course, Refusal>

@@ -114,17 +114,16 @@ impl LevelControlState {
         requires { actions.old ≡ [] }
         ensures { done self.new actions.new ≡ fade_woken self.old fade now }
     {
-        self.ask(fade.asking(fade.remaining, now), actions)
+        self.fade_asks(fade.asking(fade.remaining, now), actions)
     }
 
     /// A fade whose request is made now.
     #[tactic(auto, using(crate::proofs::ActionLaws::pushed))]
-    pub(crate) fn ask(&mut self, fade: Fade, actions: &mut Actions)
+    pub(crate) fn fade_asks(&mut self, fade: Fade, actions: &mut Actions)
         requires { length actions.old ≤ 5 }
         ensures { done self.new actions.new ≡ after actions.old (asked self.old fade) }
     {
-        self.task = Task::Fade(fade);
-        actions.push(ActionKind::D, u64::from(fade.counter));
+        self.asks(Task::Fade(fade), fade.counter, actions);
     }
 
     /// The end of a fade. The off reaction's puts the level before back, without the device: P if it changes, and L.
@@ -149,9 +148,8 @@ impl LevelControlState {
         ensures { done self.new actions.new ≡ after actions.old (fade_goes_on (quiet self.old) fade since now) }
     {
         let Some(until) = fade.next(since, now) else {
-            return self.ask(fade.asking(fade.left(), now), actions);
+            return self.fade_asks(fade.asking(fade.left(), now), actions);
         };
-        self.task = Task::Fade(fade.waiting(fade.left(), until));
-        actions.push(ActionKind::W, until.0);
+        self.waits(Task::Fade(fade.waiting(fade.left(), until)), until, actions);
     }
 }

@@ -14,3 +14,4 @@ mod reports;
 mod rest;
 pub mod state;
 mod targets;
+mod tasks;

@@ -7,7 +7,7 @@ ghost use Rattle.level_control.specs.Targets.{quiet};
 
 use crate::errors::ErrorCode;
 use crate::state::LevelControlState;
-use transitions::actions::{ActionKind, Actions};
+use transitions::actions::Actions;
 use transitions::events::DeviceAnswer;
 use transitions::fade::wait_or_ask;
 use transitions::tasks::{Move, MoveCourse, MoveStep, Task, is_move_end, next_move};
@@ -106,9 +106,8 @@ impl LevelControlState {
             MoveStep::Ends => self.task = Task::Rest,
             MoveStep::Asks(asked) => {
                 let coupling = self.leaves_min(asked, course.with_on_off, moment.on_off);
-                self.task = Task::Move(course.asking(asked, moment.at));
                 actions.push_coupling(coupling);
-                actions.push(ActionKind::D, u64::from(asked));
+                self.asks(Task::Move(course.asking(asked, moment.at)), asked, actions);
             }
         }
     }
@@ -120,10 +119,7 @@ impl LevelControlState {
         ensures { done self.new actions.new ≡ after actions.old (move_then (quiet self.old) moving since moment.at moment.on_off) }
     {
         match wait_or_ask(since, moment.at, moving.course.period) {
-            Some(until) => {
-                self.task = Task::Move(moving.waiting(until));
-                actions.push(ActionKind::W, until.0);
-            }
+            Some(until) => self.waits(Task::Move(moving.waiting(until)), until, actions),
             None => self.move_goes_on(moving.course, moment, actions),
         }
     }

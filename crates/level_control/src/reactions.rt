@@ -8,7 +8,7 @@ ghost use Rattle.level_control.specs.Targets.{quiet, request_to};
 
 use crate::errors::ErrorCode;
 use crate::state::LevelControlState;
-use transitions::actions::{ActionKind, Actions};
+use transitions::actions::Actions;
 use transitions::events::DeviceAnswer;
 use transitions::tasks::{FadeRequest, OnReaction, Task};
 use transitions::types::{Moment, Time};
@@ -21,10 +21,9 @@ impl LevelControlState {
         requires { actions.old ≡ [] }
         ensures { done self.new actions.new ≡ turned_on self.old }
     {
-        self.task = Task::OnReaction(OnReaction {
-            before: self.current_level,
-        });
-        actions.push(ActionKind::D, u64::from(self.settings.range.min));
+        let before = self.current_level;
+        let reaction = Task::OnReaction(OnReaction { before });
+        self.asks(reaction, self.settings.range.min, actions);
     }
 
     /// A reaction's own time, else the one that both have.

@@ -29,8 +29,7 @@ impl LevelControlState {
         ensures { done self.new actions.new ≡ started_up self.old }
     {
         if let Some(level) = self.start_up_level() {
-            self.task = Task::StartUp;
-            actions.push(ActionKind::D, u64::from(level));
+            self.asks(Task::StartUp, level, actions);
         }
     }
 

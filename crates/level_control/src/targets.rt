@@ -50,7 +50,7 @@ impl LevelControlState {
                 actions.push_if(restored, ActionKind::L);
             }
             Begin::Lost => self.fails(ErrorCode::InvalidInState, actions),
-            Begin::Starts(fade) => self.ask(fade, actions),
+            Begin::Starts(fade) => self.fade_asks(fade, actions),
         }
     }
 

@@ -29,7 +29,7 @@ use Rattle.level_control.specs.Rest.{reset_all}
 use Rattle.level_control.specs.State.{new_state, put_back, accept}
 use Rattle.level_theorems.specs.Orders.{kinds_of, OneOf, orders}
 use Rattle.level_theorems.specs.EveryEvent as claim
-use Rattle.level_theorems.specs.EveryEvent.{LevelFrom, AttributesFrom, unchanged, by_set_on_level, by_set_default_move_rate, by_set_start_up, by_factory_reset, InPhase, WaitAfter, EveryEvent, tests_of, number_shown}
+use Rattle.level_theorems.specs.EveryEvent.{LevelFrom, AttributesFrom, unchanged, InPhase, WaitAfter, EveryEvent, tests_of, number_shown}
 use Rattle.level_control.specs.declared.state.LevelControlState.{LevelControlState}
 use Rattle.level_control.proofs.AnswerLaws.{unpacked}
 use Rattle.level_control.proofs.EventLaws.{stopped_in, event_refused, event_stopped, event_runs, event_number, turn_passes}

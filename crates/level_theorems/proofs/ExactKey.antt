@@ -7,6 +7,7 @@ use native.Mathlib.Omega.{arith}
 use native.Mathlib.Nat.{mul_comm}
 use borrow.Author.Tests.{eqb-true, eqb-false}
 use lib.Dec.{eqb}
+use Rattle.std.proofs.lemmas.Bool.{and_parts}
 use Rattle.units.specs.declared.Micros.{Micros}
 use Rattle.units.specs.declared.Tenths.{Tenths}
 use Rattle.transitions.specs.Events.{event}
@@ -20,7 +21,6 @@ use Rattle.transitions.specs.declared.tasks.MoveStep.{MoveStep}
 use Rattle.transitions.specs.declared.tasks.MoveStep.TheVariants as step
 use Rattle.transitions.specs.declared.tasks.Task.{Task}
 use Rattle.transitions.specs.declared.tasks.Task.TheVariants as task
-use Rattle.transitions.proofs.Booleans.{and_first, and_second}
 use Rattle.level_control.specs.State.{accept}
 use Rattle.level_control.specs.Targets.{quiet}
 use Rattle.level_control.specs.Fades.{fade_woken}
@@ -111,7 +111,7 @@ module _ (m : Tenths) where
   quiet_play [] r w h = h
   quiet_play (e ∷ es) r w h =
       let one = not (accepted r.state e) || is_onward e.kind in
-      quiet_play es (next r e) (and_second one (only_onward (next r e) es) w) (quiet_next r e (and_first one (only_onward (next r e) es) w) h)
+      quiet_play es (next r e) (and_parts one (only_onward (next r e) es) w).1 (quiet_next r e (and_parts one (only_onward (next r e) es) w).0 h)
 
 -- From the first answer on.
 

@@ -4,8 +4,8 @@ use Prim.Native.Nat.{ℕ, ◌+◌, ◌-◌, ◌*◌}
 use mathlib.Core.Bool.{Bool, true, false, cond, not, ◌&&◌}
 use mathlib.Core.Path.{◌≡◌, refl, sym, ◌∙◌}
 use mathlib.Core.List.{List, [], ◌∷◌, ◌++◌}
-use native.Mathlib.Omega.{arith}
 use lib.Dec.{eqb, leb, ltb}
+use Rattle.std.proofs.lemmas.Option.{none-some}
 use Rattle.units.specs.Units.{micros, tenths}
 use Rattle.units.specs.declared.Micros.{Micros}
 use Rattle.transitions.specs.Coupling.{coupled_on_off}
@@ -37,7 +37,7 @@ use Rattle.level_control.specs.declared.state.LevelControlState.{LevelControlSta
 use Rattle.event_theorems.specs.Brings as bring
 use Rattle.event_theorems.specs.Brings.{Answers, Runs, brings, fade_back, is_end, scene_target, step_target}
 use Rattle.event_theorems.specs.Course as course
-use Rattle.event_theorems.specs.Course.{Course, course_letter, towards}
+use Rattle.event_theorems.specs.Course.{course_letter, towards}
 use Rattle.event_theorems.specs.Letters.{back_letters, couples, couples_first, couples_reached, leaves_min, letters, move_on_couples, on_reached, reached, reports_level, reports_time, wake_couples}
 use Rattle.event_theorems.proofs.AnswerLaws.{at_task}
 use Rattle.level_theorems.specs.Orders.{kinds_of, OneOf, this, later, orders, answer_orders, wake_orders, fade_orders, move_orders, on_orders, start_up_orders}
@@ -77,9 +77,6 @@ after_one k l x (p ∷ ps) h (later g) = later (after_one k l x ps h g)
 
 after : {k : ActionKind} {l x : List Action} {ps : List (List ActionKind)} → Fits (k ∷ []) l → Ordered ps x → Ordered (before k ps) (l ++ x)
 after {k} {l} {x} {ps} h g = record { kinds = after_one k l x ps h g.kinds }
-
-known_not_missing : {A : Type 0} (v : ℕ) → Some v ≡ None → A
-known_not_missing v e = absurd (let z : ◌≡◌ {A = ℕ} 0 1 = cc in omega arith)
 
 module _ (s : LevelControlState) (at : Micros) (on : Bool) where
   -- a target that is reached, or that there is no level to start for, or that is asked for
@@ -138,7 +135,7 @@ module _ (s : LevelControlState) (at : Micros) (on : Bool) where
   step_ordered r (Some c) e =
       let t = target s (step_to r.mode s c r.step_size) in
       target_ordered _ s.current_level t _ r.options.with_on_off false false (second (both _ _ (one_coupled (couples s.settings r.options.with_on_off on t)) (nil [])))
-      (λ m. known_not_missing c (sym e ∙ m)) (λ n. first (one D n))
+      (λ m. absurd (none-some c (sym m ∙ e))) (λ n. first (one D n))
   step_ordered r None e = silent
 
   scene_ordered : (l : Level) (ms : ℕ) → Ordered ((D ∷ []) ∷ (E ∷ []) ∷ []) (letters s (Runs (scene_target l s ms)) at on)

@@ -8,11 +8,11 @@ use native.Mathlib.Omega.{arith}
 use borrow.Author.Tests.{leb-true}
 use lib.Dec.{leb}
 use lib.ListN.{length}
+use Rattle.std.proofs.lemmas.Bool.{and_parts}
 use Rattle.transitions.specs.Events.{act, act_if, act_coupled}
 use Rattle.transitions.specs.declared.actions.Action.{Action}
 use Rattle.transitions.specs.declared.actions.ActionKind.{ActionKind}
 use Rattle.transitions.specs.declared.actions.ActionKind.TheVariants.{C}
-use Rattle.transitions.proofs.Booleans.{and_first, and_second}
 use Rattle.level_theorems.specs.Orders.{kinds_of, LeavesOut, end, takes, leaves, OneOf, this, later}
 
 -- actions whose kinds a pattern leads to
@@ -72,10 +72,10 @@ short (p ∷ ps) = leb (length p) 7 && short ps
 kinds_at_most_seven : (ps : List (List ActionKind)) (k : List ActionKind) → OneOf ps k → short ps ≡ true → length k ≤ 7
 kinds_at_most_seven [] k h e = elim h [ ]
 kinds_at_most_seven (p ∷ ps) k (this h) e =
-    let few = leb-true (length p) 7 (and_first (leb (length p) 7) (short ps) e) in
+    let few = leb-true (length p) 7 (and_parts (leb (length p) 7) (short ps) e).0 in
     let g = not_longer h in
     omega arith
-kinds_at_most_seven (p ∷ ps) k (later h) e = kinds_at_most_seven ps k h (and_second (leb (length p) 7) (short ps) e)
+kinds_at_most_seven (p ∷ ps) k (later h) e = kinds_at_most_seven ps k h (and_parts (leb (length p) 7) (short ps) e).1
 
 pub at_most_seven_of : (ps : List (List ActionKind)) (l : List Action) → OneOf ps (kinds_of l) → short ps ≡ true → length l ≤ 7
 at_most_seven_of ps l h e = let g = kinds_at_most_seven ps (kinds_of l) h e in let m = kinds_length l in omega arith

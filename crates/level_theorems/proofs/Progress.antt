@@ -7,6 +7,7 @@ use native.Mathlib.Omega.{arith}
 use borrow.Author.Tests.{leb-true}
 use lib.Dec.{leb}
 use lib.ListN.{length}
+use Rattle.std.proofs.lemmas.Bool.{and_from, and_parts, or_right}
 use Rattle.units.specs.Units.{micros}
 use Rattle.units.specs.declared.Micros.{Micros}
 use Rattle.transitions.specs.Events.{event}
@@ -19,7 +20,6 @@ use Rattle.transitions.specs.declared.tasks.Phase.{Phase}
 use Rattle.transitions.specs.declared.tasks.Phase.TheVariants.{Asked, Waiting}
 use Rattle.transitions.specs.declared.tasks.Task.{Task}
 use Rattle.transitions.specs.declared.tasks.Task.TheVariants as task
-use Rattle.transitions.proofs.Booleans.{and_first, and_second, and_both, or_second}
 use Rattle.level_control.specs.State.{accept}
 use Rattle.level_control.specs.Answer.{Outcome}
 use Rattle.level_control.specs.Causes.{latest}
@@ -76,12 +76,12 @@ module _ (c t T : ℕ) (pos : 1 ≤ T) (small : T ≤ 65535) where
   answer_leads p ps goal r h is_open left time =
       let e : Event = replies r.state p in
       let others : Bool = in_time (answers_from (next r e) ps) in
-      let soon : e.moment.at.0 ≤ latest.0 = leb-true e.moment.at.0 latest.0 (and_first (leb e.moment.at.0 latest.0) others time) in
+      let soon : e.moment.at.0 ≤ latest.0 = leb-true e.moment.at.0 latest.0 (and_parts (leb e.moment.at.0 latest.0) others time).0 in
       let ok : accepted r.state e ≡ true = answers_accepted r.state (device.Level p.level) e.moment.at p.on is_open (omega arith) soon in
       let count : (next r e).answers ≡ r.answers + 1 = next_answers r e ok in
-      let on : (not (accepted r.state e) || is_onward e.kind) ≡ true = or_second (not (accepted r.state e)) true refl in
-      let rest = goal (next r e) (keep c t T pos small r e on h) (omega arith) (and_second (leb e.moment.at.0 latest.0) others time) in
-      (and_both _ _ on rest.0, rest.1)
+      let on : (not (accepted r.state e) || is_onward e.kind) ≡ true = or_right (not (accepted r.state e)) true refl in
+      let rest = goal (next r e) (keep c t T pos small r e on h) (omega arith) (and_parts (leb e.moment.at.0 latest.0) others time).1 in
+      (and_from _ _ on rest.0, rest.1)
 
   -- a wake before it, where the fade waits
   abbrev Led : Run → Reply → List Reply → List Event → Type 0
@@ -94,15 +94,15 @@ module _ (c t T : ℕ) (pos : 1 ≤ T) (small : T ≤ 65535) where
       let at : Micros = micros (max until.0 r.state.last_accepted.0) in
       let w : Event = event at p.on kind.Wake in
       let others : Bool = in_time (answered (next r w) p ps) in
-      let soon : at.0 ≤ latest.0 = leb-true at.0 latest.0 (and_first (leb at.0 latest.0) others time) in
+      let soon : at.0 ≤ latest.0 = leb-true at.0 latest.0 (and_parts (leb at.0 latest.0) others time).0 in
       let ok : accepted r.state w ≡ true = fade_wakes_accepted r.state f until at p.on x e (omega arith) (omega arith) soon in
-      let on : (not (accepted r.state w) || is_onward w.kind) ≡ true = or_second (not (accepted r.state w)) true refl in
+      let on : (not (accepted r.state w) || is_onward w.kind) ≡ true = or_right (not (accepted r.state w)) true refl in
       let is_open : task_open (next r w).state.task ≡ true =
       ap (λ (s : LevelControlState). task_open s.task) (next_state_is r w) ∙ wake_opens r.state f at p.on x (accepted_zero r.state w ok) in
       let count : (next r w).answers ≡ r.answers + 0 = next_answers r w ok in
       let rest = answer_leads p ps goal (next r w) (keep c t T pos small r w on h) is_open (omega arith)
-      (and_second (leb at.0 latest.0) others time) in
-      (and_both _ _ on rest.0, rest.1)
+      (and_parts (leb at.0 latest.0) others time).1 in
+      (and_from _ _ on rest.0, rest.1)
 
   -- before the end a fade runs
   task_leads : (p : Reply) (ps : List Reply) → Goal ps → (r : Run) → Kept c t T pos small r → r.answers + suc (length ps) ≡ distance t c

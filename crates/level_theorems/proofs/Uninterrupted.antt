@@ -2,9 +2,9 @@
 use mathlib.Core.Bool.{Bool, true, false, not, ◌||◌, false≢true}
 use mathlib.Core.Path.{◌≡◌, refl}
 use mathlib.Core.List.{[], ◌∷◌}
+use Rattle.std.proofs.lemmas.Bool.{and_from, and_parts, or_right}
 use Rattle.transitions.specs.declared.events.EventKind.{EventKind}
 use Rattle.transitions.specs.declared.events.EventKind.TheVariants as kind
-use Rattle.transitions.proofs.Booleans.{and_first, and_second, and_both, or_second}
 use Rattle.level_control.specs.Run.{accepted, next, is_onward, only_onward}
 use Rattle.level_theorems.specs.Uninterrupted.{is_answer_or_wake, at_rest}
 use Rattle.level_theorems.specs.FadeTheorems.{Uninterrupted}
@@ -24,6 +24,6 @@ pub uninterrupted_holds : Uninterrupted
 uninterrupted_holds r [] h = refl
 uninterrupted_holds r (e ∷ es) h =
     let one : Bool = not (accepted r.state e) || is_onward e.kind in
-    or_second (at_rest r.pending) _
-    (and_both _ _ (allowed (not (accepted r.state e)) e.kind (and_first one (only_onward (next r e) es) h))
-    (uninterrupted_holds (next r e) es (and_second one (only_onward (next r e) es) h)))
+    or_right (at_rest r.pending) _
+    (and_from _ _ (allowed (not (accepted r.state e)) e.kind (and_parts one (only_onward (next r e) es) h).0)
+    (uninterrupted_holds (next r e) es (and_parts one (only_onward (next r e) es) h).1))

@@ -8,6 +8,7 @@ use native.Mathlib.Omega.{arith}
 use native.Mathlib.Nat.{div-mul-le_self}
 use borrow.Author.Tests.{le-leb}
 use lib.ListN.{length}
+use Rattle.std.proofs.lemmas.Bool.{and_from, or_right}
 use Rattle.units.specs.Units.{micros, millis_to_micros, at_most, later, elapsed}
 use Rattle.units.specs.declared.Micros.{Micros}
 use Rattle.transitions.specs.Events.{event}
@@ -34,7 +35,6 @@ use Rattle.level_theorems.specs.Replies.{Reply, wake_in, wake_of, replies, answe
 use Rattle.level_theorems.specs.FadeTheorems.{WaitsEnd}
 use Rattle.level_control.specs.Reports.{Told}
 use Rattle.level_control.specs.declared.state.LevelControlState.{LevelControlState}
-use Rattle.transitions.proofs.Booleans.{and_both, or_second}
 use Rattle.level_control.proofs.FadeInvariant.{Inv, Kept, answer_is, wake_is, keep}
 use Rattle.level_control.proofs.StartLaws.{Starting, go_to_starts}
 use Rattle.level_control.proofs.EveryFade.{accepted_zero, starts, kept}
@@ -146,10 +146,10 @@ module _ (c t T : ℕ) (pos : 1 ≤ T) (small : T ≤ 65535) where
           let low : r.state.last_accepted.0 ≤ e.moment.at.0 = omega arith in
           let ok : accepted r.state e ≡ true = answers_accepted r.state (device.Level p.level) e.moment.at p.on (ap task_open q ∙ ap phase_open z) low soon in
           let count : (next_run r e).answers ≡ r.answers + 1 = next_answers r e ok in
-          let on : (not (accepted r.state e) || is_onward e.kind) ≡ true = or_second (not (accepted r.state e)) true refl in
+          let on : (not (accepted r.state e) || is_onward e.kind) ≡ true = or_right (not (accepted r.state e)) true refl in
           let comes : Comes e.moment.at (next_run r e).state = answer_run r f since e.moment.at p.on p.level q z (omega arith) ok in
           let clock : (next_run r e).state.last_accepted.0 ≡ e.moment.at.0 = ap (λ (x : Micros). x.0) comes.0 in
-          and_both _ _ (le-leb e.moment.at.0 latest.0 soon)
+          and_from _ _ (le-leb e.moment.at.0 latest.0 soon)
           (goal (next_run r e) (keep c t T pos small r e on h)
           (subst (λ (x : ℕ). Timed (next_run r e).state.task x) (sym clock) comes.1) (omega arith) (omega arith))
       by (Waiting until) z o w = absurd (false≢true o)
@@ -176,14 +176,14 @@ module _ (c t T : ℕ) (pos : 1 ≤ T) (small : T ≤ 65535) where
       let wait : until.0 ≤ r.state.last_accepted.0 + each = rw period at w in
       let soon : at.0 ≤ latest.0 = omega arith in
       let ok : accepted r.state e ≡ true = fade_wakes_accepted r.state f until at p.on q z (omega arith) (omega arith) soon in
-      let on : (not (accepted r.state e) || is_onward e.kind) ≡ true = or_second (not (accepted r.state e)) true refl in
+      let on : (not (accepted r.state e) || is_onward e.kind) ≡ true = or_right (not (accepted r.state e)) true refl in
       let is_open : task_open (next_run r e).state.task ≡ true =
       ap (λ (s : LevelControlState). task_open s.task) (next_state_is r e) ∙ wake_opens r.state f at p.on q (accepted_zero r.state e ok) in
       let count : (next_run r e).answers ≡ r.answers + 0 = next_answers r e ok in
       let comes : Comes at (next_run r e).state = wake_run r f at p.on q ok in
       let clock : (next_run r e).state.last_accepted.0 ≡ at.0 = ap (λ (x : Micros). x.0) comes.0 in
       let holds : Kept c t T pos small (next_run r e) = keep c t T pos small r e on h in
-      and_both _ _ (le-leb at.0 latest.0 soon)
+      and_from _ _ (le-leb at.0 latest.0 soon)
       (answer_soon p ps goal (next_run r e) holds (next_run r e).state.task refl is_open holds
       (subst (λ (x : ℕ). Timed (next_run r e).state.task x) (sym clock) comes.1) (omega arith) (omega arith))
 

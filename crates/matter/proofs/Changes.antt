@@ -22,13 +22,13 @@ use Rattle.transitions.proofs.MatterLaws.{matter_agrees}
 use Rattle.level_control.specs.Events.{event_of}
 use Rattle.level_control.specs.Run.{accepted, is_onward}
 use Rattle.level_control.specs.Starts as starts
-use Rattle.level_control.specs.Starts.{Start, NoFade, Fades, start_from, when, target, given_or, step_in, distance, start_of}
+use Rattle.level_control.specs.Starts.{NoFade, start_from, when, target, given_or, step_in, start_of}
 use Rattle.level_control.specs.Targets.{stepped_level}
 use Rattle.level_control.specs.declared.state.LevelControlState.{LevelControlState}
 use Rattle.level_control.proofs.EveryFade.{accepted_zero}
 use Rattle.level_control.proofs.StartLaws.{no_fade, direct_starts, step_is}
 use Rattle.level_theorems.specs.Covered as covered
-use Rattle.level_theorems.specs.Covered.{Begins, Covered}
+use Rattle.level_theorems.specs.Covered.{Covered}
 use Rattle.level_theorems.specs.EveryEvent as claim
 use Rattle.level_theorems.specs.EveryEvent.{LevelFrom}
 use Rattle.level_theorems.proofs.EveryEventLaws.{every_event}

@@ -7,7 +7,7 @@ use mathlib.Core.List.{List, [], ◌∷◌}
 use native.Mathlib.Omega.{arith}
 use borrow.Author.Tests.{ltb-true}
 use lib.Dec.{ltb}
-use Rattle.transitions.proofs.Booleans.{and_first, and_second}
+use Rattle.std.proofs.lemmas.Bool.{and_parts}
 use Rattle.units.specs.Units.{scaled_floor, tenths, micros}
 use Rattle.transitions.specs.Causes.{first_cause}
 use Rattle.transitions.specs.Commands.{target_level, step_level, step_time, rate_in_force}
@@ -19,7 +19,7 @@ use Rattle.transitions.specs.Options.{should_continue}
 use Rattle.transitions.specs.RemainingTime.{remaining_time_due}
 use Rattle.transitions.specs.Tasks.{fade_asking, fade_waiting, fade_from, level_to_restore, begin_fade}
 use Rattle.transitions.specs.Types.{same_level, level_or, time_or}
-use Rattle.level_control.specs.State.{new_state, accept, with_task, with_level, with_remaining_time, with_answered}
+use Rattle.level_control.specs.State.{new_state}
 use Rattle.transitions.specs.Actions.{reports_of}
 use Rattle.level_control.specs.Reports.{write_remaining_time, level_due, set_level, told_level, coupled_by, continues}
 use Rattle.level_control.specs.Targets.{go_to, moved_to_level, stepped_level, stepped_time, stepped, recalled}
@@ -50,7 +50,7 @@ all_small (b ∷ s) = ltb b 256 && all_small s
 
 bytes : (s : List ℕ) → all_small s ≡ true → AllBytes s
 bytes [] h = tt
-bytes (b ∷ s) h = (ltb-true b 256 (and_first (ltb b 256) (all_small s) h), bytes s (and_second (ltb b 256) (all_small s) h))
+bytes (b ∷ s) h = (ltb-true b 256 (and_parts (ltb b 256) (all_small s) h).0, bytes s (and_parts (ltb b 256) (all_small s) h).1)
 
 abbrev held : (s : List ℕ) → all_small s ≡ true → Record
 held s h = record { bytes = s; small = bytes s h }

@@ -17,7 +17,7 @@ use Rattle.records.proofs.WrittenLaws.{event_written}
 use Rattle.level_control.specs.Answer.{Outcome}
 use Rattle.level_control.specs.EveryFade.{Shown}
 use Rattle.level_control.specs.Run as run
-use Rattle.level_control.specs.Run.{Run, Nothing, started, accepted, play}
+use Rattle.level_control.specs.Run.{Run, started, accepted, play}
 use Rattle.level_control.specs.State.{new_state}
 use Rattle.level_control.specs.declared.state.LevelControlState.{LevelControlState}
 use Rattle.level_control.proofs.EveryFade.{every_fade}

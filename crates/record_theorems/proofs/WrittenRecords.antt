@@ -7,6 +7,7 @@ use native.Mathlib.Omega.{arith}
 use borrow.Author.Tests.{leb-true}
 use lib.Dec.{leb}
 use lib.ListN.{take, drop, replicate}
+use Rattle.std.proofs.lemmas.Bool.{and_parts}
 use Rattle.transitions.specs.declared.events.DeviceAnswer.TheVariants as device
 use Rattle.transitions.specs.declared.events.Event.{Event}
 use Rattle.transitions.specs.declared.events.EventKind.{EventKind}
@@ -15,7 +16,6 @@ use Rattle.transitions.specs.declared.tasks.Phase.{Phase}
 use Rattle.transitions.specs.declared.tasks.Phase.TheVariants.{Asked, Waiting}
 use Rattle.transitions.specs.declared.tasks.Task.{Task}
 use Rattle.transitions.specs.declared.tasks.Task.TheVariants as task
-use Rattle.transitions.proofs.Booleans.{and_first, and_second}
 use Rattle.records.specs.Laws.{AllBytes}
 use Rattle.records.specs.Written.{bit, kind_number, named, event_record, KindFits, EventFits}
 use Rattle.records.specs.Written as written
@@ -97,9 +97,9 @@ pub record Written (es : List Event) : Type 0 where
 write : (es : List Event) → AllPlain es → in_time es ≡ true → Written es
 write [] p h = record { records = []; bytes = refl; read = refl }
 write (e ∷ es) p h =
-    let soon : e.moment.at.0 ≤ latest.0 = leb-true e.moment.at.0 latest.0 (and_first (leb e.moment.at.0 latest.0) (in_time es) h) in
+    let soon : e.moment.at.0 ≤ latest.0 = leb-true e.moment.at.0 latest.0 (and_parts (leb e.moment.at.0 latest.0) (in_time es) h).0 in
     let fits : EventFits e = record { time = omega arith; kind = plain_fits e.kind p.0 } in
-    let rest : Written es = write es p.1 (and_second (leb e.moment.at.0 latest.0) (in_time es) h) in
+    let rest : Written es = write es p.1 (and_parts (leb e.moment.at.0 latest.0) (in_time es) h).1 in
     record {
       records = record { bytes = event_record e; small = record_bytes e p.0 } ∷ rest.records;
       bytes = ap (λ (l : List (List ℕ)). event_record e ∷ l) rest.bytes;

@@ -13,11 +13,11 @@ use Rattle.std.specs.Prelude.{Option, Some, None, is_some, if◌then◌else◌, 
 use Rattle.std.specs.Bool.{then_some}
 use Rattle.std.specs.List.{list_all}
 use Rattle.std.specs.Option.{option_map}
+use Rattle.std.proofs.lemmas.Bool.{and_from, and_parts}
 use Rattle.transitions.specs.declared.events.Event.{Event}
 use Rattle.transitions.specs.declared.events.EventKind.{EventKind}
 use Rattle.transitions.specs.declared.settings.Settings.{Settings}
 use Rattle.transitions.specs.Causes.{first_cause}
-use Rattle.transitions.proofs.Booleans.{and_first, and_second, and_both}
 use Rattle.records.specs.Bytes.{byte_at, is_flag, zeros_from, has_marks}
 use Rattle.records.specs.Settings.{settings_wrong, settings_at, settings_read, settings_read_number}
 use Rattle.records.specs.Events.{kinds, kind_read, event_read, event_read_number}
@@ -32,12 +32,12 @@ all_zero s = list_all (λ byte. eqb byte 0) s
 
 all_zero_at : (s : List ℕ) → all_zero s ≡ true → (i : ℕ) → byte_at s i ≡ 0
 all_zero_at [] e i = refl
-all_zero_at (b ∷ s) e zero = eqb-true b 0 (and_first (eqb b 0) (all_zero s) e)
-all_zero_at (b ∷ s) e (suc i) = all_zero_at s (and_second (eqb b 0) (all_zero s) e) i
+all_zero_at (b ∷ s) e zero = eqb-true b 0 (and_parts (eqb b 0) (all_zero s) e).0
+all_zero_at (b ∷ s) e (suc i) = all_zero_at s (and_parts (eqb b 0) (all_zero s) e).1 i
 
 zero_all : (s : List ℕ) → ((i : ℕ) → byte_at s i ≡ 0) → all_zero s ≡ true
 zero_all [] z = refl
-zero_all (b ∷ s) z = and_both (eqb b 0) (all_zero s) (eq-eqb b 0 (z 0)) (zero_all s (λ i. z (suc i)))
+zero_all (b ∷ s) z = and_from (eqb b 0) (all_zero s) (eq-eqb b 0 (z 0)) (zero_all s (λ i. z (suc i)))
 
 module _ (s : List ℕ) where
   zeros : (n : ℕ) → zeros_from s n ≡ true → (i : ℕ) → n ≤ i → byte_at s i ≡ 0
@@ -61,34 +61,34 @@ module _ (s : List ℕ) where
 
   limits_first : (b : Bool) (ls : List Limit) → limits b ls ≡ true → b ≡ true
   limits_first b [] e = e
-  limits_first b (l ∷ ls) e = and_first b (under l) (limits_first (b && under l) ls e)
+  limits_first b (l ∷ ls) e = (and_parts b (under l) (limits_first (b && under l) ls e)).0
 
   within : (b : Bool) (ls : List Limit) → limits b ls ≡ true → Within s ls
   within b [] e = tt
   within b (l ∷ ls) e =
       let here = limits_first (b && under l) ls e in
-      (leb-true (byte_at s l.place) l.most (and_second b (under l) here), within (b && under l) ls e)
+      (leb-true (byte_at s l.place) l.most (and_parts b (under l) here).1, within (b && under l) ls e)
 
   from_within : (b : Bool) (ls : List Limit) → b ≡ true → Within s ls → limits b ls ≡ true
   from_within b [] e w = e
   from_within b (l ∷ ls) e w =
-      from_within (b && under l) ls (and_both b (under l) e (le-leb (byte_at s l.place) l.most w.0)) w.1
+      from_within (b && under l) ls (and_from b (under l) e (le-leb (byte_at s l.place) l.most w.0)) w.1
 
   pub kept : (l : Layout) → (keeps l ≡ true) ↔ Keeps s l
   kept l = (
-    (λ e. record { within = within true l.limits (and_first (limits true l.limits) (zeros_from s l.unnamed) e); zeros = zeros l.unnamed (and_second (limits true l.limits) (zeros_from s l.unnamed) e) }),
-    (λ k. and_both (limits true l.limits) (zeros_from s l.unnamed) (from_within true l.limits refl k.within) (from_zeros l.unnamed k.zeros)),
+    (λ e. record { within = within true l.limits (and_parts (limits true l.limits) (zeros_from s l.unnamed) e).0; zeros = zeros l.unnamed (and_parts (limits true l.limits) (zeros_from s l.unnamed) e).1 }),
+    (λ k. and_from (limits true l.limits) (zeros_from s l.unnamed) (from_within true l.limits refl k.within) (from_zeros l.unnamed k.zeros)),
   )
 
   pub marked : (mark : ℕ) → (has_marks s mark ≡ true) ↔ Marked s mark
   marked mark = (
-    (λ e. let two = and_first (eqb (length s) 20 && eqb (byte_at s 0) 0x4C) (eqb (byte_at s 1) mark) e in record {
-      whole = eqb-true (length s) 20 (and_first (eqb (length s) 20) (eqb (byte_at s 0) 0x4C) two);
-      first = eqb-true (byte_at s 0) 0x4C (and_second (eqb (length s) 20) (eqb (byte_at s 0) 0x4C) two);
-      second = eqb-true (byte_at s 1) mark (and_second (eqb (length s) 20 && eqb (byte_at s 0) 0x4C) (eqb (byte_at s 1) mark) e);
+    (λ e. let two = (and_parts (eqb (length s) 20 && eqb (byte_at s 0) 0x4C) (eqb (byte_at s 1) mark) e).0 in record {
+      whole = eqb-true (length s) 20 (and_parts (eqb (length s) 20) (eqb (byte_at s 0) 0x4C) two).0;
+      first = eqb-true (byte_at s 0) 0x4C (and_parts (eqb (length s) 20) (eqb (byte_at s 0) 0x4C) two).1;
+      second = eqb-true (byte_at s 1) mark (and_parts (eqb (length s) 20 && eqb (byte_at s 0) 0x4C) (eqb (byte_at s 1) mark) e).1;
     }),
-    (λ m. and_both (eqb (length s) 20 && eqb (byte_at s 0) 0x4C) (eqb (byte_at s 1) mark)
-        (and_both (eqb (length s) 20) (eqb (byte_at s 0) 0x4C) (eq-eqb (length s) 20 m.whole) (eq-eqb (byte_at s 0) 0x4C m.first))
+    (λ m. and_from (eqb (length s) 20 && eqb (byte_at s 0) 0x4C) (eqb (byte_at s 1) mark)
+        (and_from (eqb (length s) 20) (eqb (byte_at s 0) 0x4C) (eq-eqb (length s) 20 m.whole) (eq-eqb (byte_at s 0) 0x4C m.first))
         (eq-eqb (byte_at s 1) mark m.second)),
   )
 
@@ -100,7 +100,7 @@ flagged s i = (leb-true (byte_at s i) 1, le-leb (byte_at s i) 1)
 pub settings_right : (s : List ℕ) → (settings_wrong s ≡ false) ↔ (Marked s 0x47 × Keeps s settings_layout)
 settings_right s = (
   (λ e. let right = not-false (has_marks s 0x47 && keeps s settings_layout) e in
-      ((marked s 0x47).0 (and_first (has_marks s 0x47) (keeps s settings_layout) right), (kept s settings_layout).0 (and_second (has_marks s 0x47) (keeps s settings_layout) right))),
+      ((marked s 0x47).0 (and_parts (has_marks s 0x47) (keeps s settings_layout) right).0, (kept s settings_layout).0 (and_parts (has_marks s 0x47) (keeps s settings_layout) right).1)),
   (λ k. rw ((marked s 0x47).1 k.0, (kept s settings_layout).1 k.1)),
 )
 
@@ -185,11 +185,11 @@ module _ (s : List ℕ) where
   event_right = (
     (λ e.
         let h = (headed _ (has_marks s 0x45 && is_flag s 3) (get_or (kinds s) (byte_at s 2) None)).0 e in
-        let m = (marked s 0x45).0 (and_first (has_marks s 0x45) (is_flag s 3) h.0) in
+        let m = (marked s 0x45).0 (and_parts (has_marks s 0x45) (is_flag s 3) h.0).0 in
         let known = a_kind (kinds s) (byte_at s 2) h.1 in
-        (m, (flagged s 3).0 (and_second (has_marks s 0x45) (is_flag s 3) h.0), known, (kept s _).0 (sym (agree_at s (kinds s) event_layouts (agree s m.whole) (byte_at s 2) known) ∙ h.1))),
+        (m, (flagged s 3).0 (and_parts (has_marks s 0x45) (is_flag s 3) h.0).1, known, (kept s _).0 (sym (agree_at s (kinds s) event_layouts (agree s m.whole) (byte_at s 2) known) ∙ h.1))),
     (λ k. (headed _ (has_marks s 0x45 && is_flag s 3) (get_or (kinds s) (byte_at s 2) None)).1 (
-      and_both (has_marks s 0x45) (is_flag s 3) ((marked s 0x45).1 k.0) ((flagged s 3).1 k.1),
+      and_from (has_marks s 0x45) (is_flag s 3) ((marked s 0x45).1 k.0) ((flagged s 3).1 k.1),
       agree_at s (kinds s) event_layouts (agree s k.0.whole) (byte_at s 2) k.2 ∙ (kept s _).1 k.3,
     )),
   )

@@ -14,7 +14,7 @@ pub(crate) fn marked(bytes: &[u8], mark: u8) -> Option<&[u8; RECORD]>
     (whole[0] == 0x4C && whole[1] == mark).then_some(whole)
 }
 
-/// A flag is 0 or 1.
+/// A flag is 0 or 1: a record's code, of which `bool` knows nothing.
 pub(crate) fn flag(byte: u8) -> Option<bool>
     ensures { result ≡ flag_of byte }
 {

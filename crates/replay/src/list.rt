@@ -40,6 +40,7 @@ fn two_numbers(bytes: &[u8]) -> Option<(u32, u32)> {
 /// The next n bytes, or as many as there are and the room holds.
 fn read_some<'a>(input: &mut impl Read, n: usize, room: &'a mut [u8]) -> io::Result<&'a [u8]> {
     let n = n.min(room.len());
+    // A length has 64 bits at most.
     let read = io::copy(&mut input.take(n as u64), &mut &mut room[..n])?;
     // No more than the room: nothing is cut.
     let read = n.min(read as usize);

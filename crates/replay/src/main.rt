@@ -20,7 +20,7 @@ enum Output {
     States,
 }
 
-#[derive(Clone, Copy, Debug)]
+#[derive(Clone, Copy, Debug, Default)]
 struct Count {
     agree: u64,
     differ: u64,
@@ -55,10 +55,7 @@ fn all(
     output: Output,
     out: &mut impl Write,
 ) -> io::Result<Option<Count>> {
-    let mut count = Count {
-        agree: 0,
-        differ: 0,
-    };
+    let mut count = Count::default();
     for index in 1..=list.plays {
         let mut records = [0; MOST_RECORDS];
         let mut sheet = [0; MOST_SHEET];

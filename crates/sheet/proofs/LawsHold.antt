@@ -1,7 +1,7 @@
 -- The laws of specs/Laws.antt. Assumes nothing.
 use Rattle.std.specs.Prelude.{Result, Ok, Err}
 use Prim.Native.Nat.{ℕ, zero, suc, ◌+◌, ◌-◌, ◌/◌, ◌%◌, ◌<◌, ◌≤◌, min}
-use mathlib.Core.Bool.{Bool, true, false, cond}
+use mathlib.Core.Bool.{Bool, true, false, false≢true, cond}
 use mathlib.Core.Path.{◌≡◌, refl, sym, ap, subst, ◌∙◌}
 use mathlib.Core.List.{List, [], ◌∷◌, ◌++◌}
 use mathlib.Core.Logic.{◌↔◌, ◌⊎◌, inl, inr, ⊎_elim}
@@ -12,8 +12,8 @@ use lib.Dec.{leb}
 use lib.IntN.{ℤ, pos, negsuc}
 use lib.ListN.{length, take, drop, length-append, length-drop}
 use lib.Seq.{sets, sets-eq, take_at, take_all, drop_at, length-take-le}
+use Rattle.std.proofs.lemmas.Bool.{cases_lt}
 use Rattle.text.specs.Text.{ascii, digits, digits_within}
-use Rattle.text.proofs.WriteLaws.{by_test}
 use Rattle.records.specs.Settings.{settings_read, settings_read_number}
 use Rattle.records.specs.declared.refusal.RecordRefusal.{RecordRefusal}
 use Rattle.records.specs.declared.refusal.RecordRefusal.TheVariants.{RecordWrong, MaxAbove254, MinAboveMax, LightingMin0}
@@ -26,7 +26,7 @@ use Rattle.sheet.specs.Lines.{record_outcome, records_of, outcomes_of, outcome_l
 use Rattle.sheet.specs.Play.{length_ok, fitted, play_with, play_of, number_of, result, returned, refusal_text, shown, key_of, printed}
 use Rattle.sheet.specs.declared.refusal.PlayRefusal.{PlayRefusal}
 use Rattle.sheet.specs.declared.refusal.PlayRefusal.TheVariants.{Record as RecordRefused, TextTooLong}
-use Rattle.sheet.proofs.SheetLaws.{at_least, at_most, never}
+use Rattle.sheet.proofs.SheetLaws.{at_least, at_most}
 
 twenties : (n : ℕ) → length_ok n ≡ true → n % 20 ≡ 0
 unfolding length_ok
@@ -55,7 +55,7 @@ fitted_keeps : (text out : List ℕ) → Keeps (fitted text out) out
 unfolding fitted
 fitted_keeps text out = either (leb (length text) (length out)) _ _ out
     (λ e. (
-      λ why t. absurd (never (sym (ap is_text t))),
+      λ why t. absurd (false≢true (sym (ap is_text t))),
       length-append text (drop (length text) out) ∙ (rw (length-drop (length text) out) (omega (arith, leb-true (length text) (length out) e))),
     ))
     (refusal _ out)
@@ -109,7 +109,7 @@ unfolding fitted
 not_fitted text out n h = go (leb (length text) (length out))
   where
     go : (b : Bool) → (returned (cond b (Ok (length text), text ++ drop (length text) out) (Err TextTooLong, out)) ≡ (negsuc n, out)) ↔ (0 ≡ n + 1)
-    go true = (λ e. absurd (never (ap (λ (p : ℤ × List ℕ). is_minus p.0) e)), λ e. absurd (omega arith))
+    go true = (λ e. absurd (false≢true (ap (λ (p : ℤ × List ℕ). is_minus p.0) e)), λ e. absurd (omega arith))
     go false = (
       λ e. absurd (let same : 15 ≡ n = ap (λ (p : ℤ × List ℕ). less_one p.0) e in omega arith),
       λ e. absurd (omega arith),
@@ -135,7 +135,7 @@ minus_1 records out = go (length_ok (length records))
         ↔ ((ok ≡ false) ⊎ (settings_read_number (settings_read (take 20 records)) ≡ 1))
     go true =
         let both = minus_with (settings_read (take 20 records)) (drop 20 records) out 0 (omega arith) in
-        (λ e. inr (both.0 e), ⊎_elim (λ f. absurd (never (sym f))) both.1)
+        (λ e. inr (both.0 e), ⊎_elim (λ f. absurd (false≢true (sym f))) both.1)
     go false = (λ e. inl refl, λ h. refl)
 
 minus_2_3_4 : (records out : List ℕ) (n : ℕ) → 1 ≤ n → n ≤ 3
@@ -152,7 +152,7 @@ minus_2_3_4 records out n low high = go (length_ok (length records))
         (λ e. (refl, both.0 e), λ h. both.1 h.1)
     go false = (
       λ e. absurd (let same : 0 ≡ n = ap (λ (p : ℤ × List ℕ). less_one p.0) e in omega arith),
-      λ h. absurd (never h.0),
+      λ h. absurd (false≢true h.0),
     )
 
 -- What keysheet prints
@@ -213,7 +213,7 @@ put_line text out s h =
 prints : (p : Result ℕ PlayRefusal × List ℕ) (out : List ℕ) (n : ℕ) → Keeps p out → result p.0 ≡ negsuc n → length (line (n + 1)) ≤ length out
     → (shown p ≡ (length (line (n + 1)), line (n + 1) ++ drop (length (line (n + 1))) out)) × (printed (shown p) ≡ line (n + 1))
 unfolding shown
-prints (Ok m, q) out n k e h = absurd (never (ap is_minus e))
+prints (Ok m, q) out n k e h = absurd (false≢true (ap is_minus e))
 prints (Err why, q) out n k e h =
     let number : number_of why ≡ n + 1 = omega (arith, ap less_one e, above_0 why) in
     let text : refusal_text why ≡ line (n + 1) = line_is why ∙ ap line number in
@@ -262,9 +262,9 @@ unfolding play_of
 refused_long records out h = rw (too_many (length records) h) refl
 
 reads_enough : (input out : List ℕ) → play_of (take 5121 input) out ≡ play_of input out
-reads_enough input out = by_test 5121 (length input)
+reads_enough input out = ⊎_elim
     (λ h. refused_long (take 5121 input) out (rw (length-take-le 5121 input (omega arith)) (omega arith)) ∙ sym (refused_long input out (omega arith)))
-    (λ h. ap (λ (r : List ℕ). play_of r out) (take_all 5121 input h))
+    (λ h. ap (λ (r : List ℕ). play_of r out) (take_all 5121 input h)) (cases_lt 5121 (length input))
 
 pub sheet_laws : Laws
 sheet_laws = record {

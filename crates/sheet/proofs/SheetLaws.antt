@@ -1,17 +1,20 @@
 -- Laws of the sheet: one event more, a part of the output that was lent, and a text that fits. Assumes nothing.
 use Rattle.std.specs.Prelude.{Ok, Err}
 use Prim.Native.Nat.{ℕ, suc, ◌+◌, ◌-◌, ◌/◌, ◌<◌, ◌≤◌, min}
-use mathlib.Core.Path.{◌≡◌, refl, sym, ap, ◌∙◌}
-use mathlib.Core.List.{List, [], ◌∷◌, ◌++◌}
-use mathlib.Core.Bool.{Bool, true, false}
+use mathlib.Core.Path.{◌≡◌, sym, ap, ◌∙◌}
+use mathlib.Core.List.{List, [], ◌++◌}
+use mathlib.Core.Logic.{⊎_elim}
+use mathlib.Core.Bool.{Bool, true, false≢true}
 use native.Mathlib.Omega.{arith}
 use native.Mathlib.Nat.{zero-add}
 use borrow.Author.Tests.{leb-true, lt-ltb, le-ltb, le-leb, lt-leb}
 use lib.Dec.{leb}
 use lib.ListN.{length, take, drop, length-append, length-drop, take-append-drop}
-use lib.Seq.{length-take-le, take_at, drop_at, length-sets, sets, sets-eq, take-length}
+use lib.Seq.{length-take-le, take_at, drop_at, length-sets, sets, sets-eq}
+use Rattle.std.proofs.lemmas.Bool.{cases_lt}
+use Rattle.std.proofs.lemmas.List.{nil_from_length, take_rest}
 use Rattle.text.specs.Text.{Room, Wrote, most, put_whole}
-use Rattle.text.proofs.WriteLaws.{by_test, sets_append, sets_out, then, first_room, whole_next, whole_wrote}
+use Rattle.text.proofs.WriteLaws.{sets_append, sets_out, then, first_room, whole_next, whole_wrote}
 use Rattle.level_control.specs.declared.state.LevelControlState.{LevelControlState}
 use Rattle.sheet.specs.Lines.{record_outcome, records_of, outcomes_of, outcome_line, lines_from}
 use Rattle.sheet.specs.Play.{fitted, length_ok}
@@ -53,28 +56,21 @@ none_left index s bytes h =
     let e : length bytes / 20 ≡ 0 = omega arith in
     rw e
 
-pub never : false ≡ true → ⊥
-never e = let z : ◌≡◌ {A = ℕ} 0 1 = cc in omega arith
-
 pub at_least : (n : ℕ) → length_ok n ≡ true → 20 ≤ n
 unfolding length_ok
-at_least n e = by_test n 20 (λ h. absurd (never (rw (lt-ltb n 20 h) at e))) (λ h. h)
+at_least n e = ⊎_elim (λ h. absurd (false≢true (rw (lt-ltb n 20 h) at e))) (λ h. h) (cases_lt n 20)
 
 pub at_most : (n : ℕ) → length_ok n ≡ true → n ≤ 5120
 unfolding length_ok
-at_most n e = by_test 5120 n (λ h. absurd (never (rw (le-ltb n 20 (omega arith), lt-ltb 5120 n h) at e))) (λ h. h)
+at_most n e = ⊎_elim (λ h. absurd (false≢true (rw (le-ltb n 20 (omega arith), lt-ltb 5120 n h) at e))) (λ h. h) (cases_lt 5120 n)
 
 -- what stands after the settings is all but they
 pub tail_is : (l : List ℕ) → take (length l - 20) (drop 20 l) ≡ drop 20 l
-tail_is l = ap (λ (n : ℕ). take n (drop 20 l)) (sym (length-drop 20 l)) ∙ take-length (drop 20 l)
+tail_is l = take_rest l 20
 
 -- lines that are said to fit surely
 pub sure : (bytes room : ℕ) {test : Bool} → test ≡ leb bytes room → test ≡ true → bytes ≤ room
 sure bytes room e h = leb-true bytes room (sym e ∙ h)
-
-length_zero : (l : List ℕ) → length l ≡ 0 → l ≡ []
-length_zero [] e = refl
-length_zero (x ∷ l) e = absurd (omega arith)
 
 -- a text at the front of out, as far as out reaches
 pub front_set : (text out : List ℕ) (k : ℕ) → k ≡ min (length text) (length out) → sets out 0 text ≡ take k text ++ drop k out
@@ -83,9 +79,9 @@ front_set text out k e =
     let long : length front ≡ k = length-take-le k text (omega arith) in
     let whole : sets out 0 text ≡ sets (sets out 0 front) k (drop k text) =
     ap (λ (t : List ℕ). sets out 0 t) (sym (take-append-drop k text)) ∙ sym (sets_append out 0 front (drop k text)) ∙ rw (long, zero-add) in
-    let none : sets (sets out 0 front) k (drop k text) ≡ sets out 0 front = by_test k (length out)
-    (λ less. rw (length_zero (drop k text) (omega (arith, length-drop k text))))
-    (λ all. sets_out (sets out 0 front) k (drop k text) (omega (arith, length-sets out 0 front))) in
+    let none : sets (sets out 0 front) k (drop k text) ≡ sets out 0 front = ⊎_elim
+    (λ less. rw (nil_from_length (drop k text) (omega (arith, length-drop k text))))
+    (λ all. sets_out (sets out 0 front) k (drop k text) (omega (arith, length-sets out 0 front))) (cases_lt k (length out)) in
     whole ∙ none ∙ sets-eq front out 0 (omega arith) ∙ rw (long, zero-add)
 
 -- a text that out cannot hold, and one that was written in it

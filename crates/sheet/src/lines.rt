@@ -32,10 +32,7 @@ fn record_event(
 fn record_number(answer: Result<(), EventRefusal>) -> u8
     ensures { result ≡ record_number answer }
 {
-    match answer {
-        Ok(()) => 0,
-        Err(refusal) => u8::from(refusal),
-    }
+    answer.err().map_or(0, u8::from)
 }
 
 /// The text at the front of out, or a refusal and out as it was. Where the text might be too long, it is measured first,

@@ -2,19 +2,20 @@
 use Prim.Native.Nat.{ℕ, zero, suc, ◌+◌, ◌-◌, ◌*◌, ◌/◌, ◌%◌, ◌^◌, ◌≤◌, ◌<◌, zero-le}
 use Prim.Native.Char.{code}
 use mathlib.Core.Path.{◌≡◌, refl, sym, ap, ◌∙◌}
-use mathlib.Core.List.{List, [], ◌∷◌, ◌++◌, append_assoc}
-use native.Mathlib.Nat.{pow-succ'}
+use mathlib.Core.Logic.{⊎_elim}
+use mathlib.Core.List.{List, [], ◌∷◌, ◌++◌}
+use native.Mathlib.Nat.{pow-succ', one-le-pow}
 use native.Mathlib.Omega.{arith}
 use borrow.Author.Tests.{lt-ltb, le-ltb}
 use lib.Dec.{lit≤, lit<}
-use lib.ListN.{length, get_or, length-append, get_or-append, take, drop}
+use lib.ListN.{length, get_or, length-append, take, drop}
 use Rattle.std.proofs.Math.Seq.{take-add, take-append_seam}
-use Rattle.std.proofs.lemmas.Fmt.{decimal_from_appends, length-decimal-le}
-use Rattle.std.proofs.lemmas.Grind.{common_steps}
+use Rattle.std.proofs.lemmas.Bool.{cases_lt}
+use Rattle.std.proofs.lemmas.Fmt.{decimal_from_appends, decimal_nonempty, first_decimal, length-decimal-le}
+use Rattle.std.proofs.lemmas.Grind.{common_steps, get_or_default_zero}
 use Rattle.std.specs.Fmt.{decimal}
 use Rattle.text.specs.Text.{digits, digits_within}
 use Rattle.text.specs.Laws.{read_after, read_digits, All, Digit}
-use Rattle.text.proofs.WriteLaws.{by_test}
 
 within_one : (k x : ℕ) → x < 10 → digits_within (suc k) x ≡ (code "0" + x) ∷ []
 unfolding digits_within
@@ -34,22 +35,22 @@ within_length : (j k x : ℕ) → x < 10 ^ suc k → length (digits_within j x) 
 unfolding digits_within
 within_length zero k x h = zero-le
 within_length (suc j) zero x h = rw (within_one j x (omega arith)) (omega arith)
-within_length (suc j) (suc k) x h = by_test x 10
+within_length (suc j) (suc k) x h = ⊎_elim
     (λ g. rw (within_one j x g) (omega arith))
-    (λ g. rw (within_more j x g, length-append) (omega (arith, within_length j k (x / 10) (omega (arith, pow-succ' 10 (suc k))))))
+    (λ g. rw (within_more j x g, length-append) (omega (arith, within_length j k (x / 10) (omega (arith, pow-succ' 10 (suc k)))))) (cases_lt x 10)
 
 within_at_most : (j x : ℕ) → length (digits_within j x) ≤ j
 unfolding digits_within
 within_at_most zero x = zero-le
-within_at_most (suc j) x = by_test x 10
+within_at_most (suc j) x = ⊎_elim
     (λ g. rw (within_one j x g) (omega arith))
-    (λ g. rw (within_more j x g, length-append) (omega (arith, within_at_most j (x / 10))))
+    (λ g. rw (within_more j x g, length-append) (omega (arith, within_at_most j (x / 10)))) (cases_lt x 10)
 
 -- there is one at least
 within_some : (k x : ℕ) → 1 ≤ length (digits_within (suc k) x)
-within_some k x = by_test x 10
+within_some k x = ⊎_elim
     (λ g. rw (within_one k x g) (omega arith))
-    (λ g. rw (within_more k x g, length-append) (omega arith))
+    (λ g. rw (within_more k x g, length-append) (omega arith)) (cases_lt x 10)
 
 pub digits_below : (k x : ℕ) → x < 10 ^ suc k → length (digits x) ≤ suc k
 unfolding digits
@@ -66,10 +67,10 @@ read_last n (e ∷ ds) d = read_last (10 * n + (e - code "0")) ds d
 
 within_read : (k x : ℕ) → x < 10 ^ suc k → read_digits (digits_within (suc k) x) ≡ x
 within_read zero x h = rw (within_one 0 x (omega arith)) (omega arith)
-within_read (suc k) x h = by_test x 10
+within_read (suc k) x h = ⊎_elim
     (λ g. rw (within_one (suc k) x g) (omega arith))
     (λ g. rw (within_more (suc k) x g, read_last 0 (digits_within (suc k) (x / 10)) (code "0" + x % 10))
-    (omega (arith, within_read k (x / 10) (omega (arith, pow-succ' 10 (suc k))))))
+    (omega (arith, within_read k (x / 10) (omega (arith, pow-succ' 10 (suc k)))))) (cases_lt x 10)
 
 pub digits_read : (x : ℕ) → x < 2 ^ 64 → read_digits (digits x) ≡ x
 unfolding digits
@@ -82,40 +83,31 @@ all_append Such (x ∷ a) b p q = (p.0, all_append Such a b p.1 q)
 within_only : (k x : ℕ) → All Digit (digits_within k x)
 unfolding digits_within
 within_only zero x = tt
-within_only (suc k) x = by_test x 10
+within_only (suc k) x = ⊎_elim
     (λ g. rw (within_one k x g) ((omega arith, omega arith), tt))
-    (λ g. rw (within_more k x g) (all_append Digit (digits_within k (x / 10)) ((code "0" + x % 10) ∷ []) (within_only k (x / 10)) ((omega arith, omega arith), tt)))
+    (λ g. rw (within_more k x g) (all_append Digit (digits_within k (x / 10)) ((code "0" + x % 10) ∷ []) (within_only k (x / 10)) ((omega arith, omega arith), tt))) (cases_lt x 10)
 
 pub digits_only : (x : ℕ) → All Digit (digits x)
 unfolding digits
 digits_only x = within_only 20 x
-
-within_first : (k x : ℕ) → x < 10 ^ suc k → 1 ≤ x → code "0" < get_or (digits_within (suc k) x) 0 (code "0")
-within_first zero x h p = rw (within_one 0 x (omega arith)) (omega arith)
-within_first (suc k) x h p = by_test x 10
-    (λ g. rw (within_one (suc k) x g) (omega arith))
-    (λ g. rw (within_more (suc k) x g, get_or-append (digits_within (suc k) (x / 10)) ((code "0" + x % 10) ∷ []) (code "0") 0 (within_some k (x / 10)))
-    (within_first k (x / 10) (omega (arith, pow-succ' 10 (suc k))) (omega arith)))
-
-pub first_digit : (x : ℕ) → x < 2 ^ 64 → 10 ≤ x → get_or (digits x) 0 (code "0") ≡ code "0" → ⊥
-unfolding digits
-first_digit x b h e = omega (arith, within_first 19 x (omega arith) (omega arith))
 
 -- the library's decimal is the same
 pub digits_decimal : (x : ℕ) → x < 2 ^ 64 → digits x ≡ decimal x
 unfolding digits
 digits_decimal x h = decimal_from_appends digits_within (record { one = within_one; more = within_more }) 20 x h (length-decimal-le 20 x (lit< tt) (omega arith) h)
 
--- a number from 10^k on and below 10^(k+1) has k+1 digits
-ten_some : (m : ℕ) → 1 ≤ 10 ^ m
-ten_some zero = lit≤ tt
-ten_some (suc m) = omega (arith, pow-succ' 10 m, ten_some m)
+pub first_digit : (x : ℕ) → x < 2 ^ 64 → 10 ≤ x → get_or (digits x) 0 (code "0") ≡ code "0" → ⊥
+first_digit x b h e =
+    let zero_first : get_or (decimal x) 0 0 ≡ code "0" =
+    sym (get_or_default_zero (decimal x) 0 (code "0") (decimal_nonempty x b)) ∙ ap (λ l. get_or l 0 (code "0")) (sym (digits_decimal x b)) ∙ e in
+    omega (arith, zero_first, first_decimal x (omega arith) b)
 
+-- a number from 10^k on and below 10^(k+1) has k+1 digits
 within_count : (m k x : ℕ) → x < 10 ^ suc k → 10 ^ m ≤ x → suc m ≤ length (digits_within (suc k) x)
 within_count zero k x h g = within_some k x
-within_count (suc m) zero x h g = omega (arith, pow-succ' 10 m, ten_some m)
+within_count (suc m) zero x h g = omega (arith, pow-succ' 10 m, one-le-pow m 10 (lit≤ tt))
 within_count (suc m) (suc k) x h g =
-    let ten : 10 ≤ x = omega (arith, pow-succ' 10 m, ten_some m) in
+    let ten : 10 ≤ x = omega (arith, pow-succ' 10 m, one-le-pow m 10 (lit≤ tt)) in
     rw (within_more (suc k) x ten, length-append) (omega (arith, within_count m k (x / 10) (omega (arith, pow-succ' 10 (suc k))) (omega (arith, pow-succ' 10 m))))
 
 pub counted_log : (m x : ℕ) → x < 2 ^ 64 → 10 ^ m ≤ x → x < 10 * 10 ^ m → suc m ≡ length (digits x)

@@ -1,4 +1,5 @@
-//! A line of the sheet: index, number, level or `-`, remaining tenths, actions; single spaces between, a line feed after.
+//! A line of the sheet (docs/RULES.md, Sheet): index, number, level or `-`, remaining tenths, actions; single spaces between, a
+//! line feed after.
 ghost use Rattle.std.specs.Prelude.{◌≡◌, ◌+◌, ◌*◌, ◌<◌, ◌≤◌, [], ◌∷◌, ◌++◌, length};
 ghost use Rattle.text.specs.Line.{action_text, actions_text, letter_of, level_text, line_of, refusal_line, shows_value};
 ghost use Rattle.text.specs.Text.{ascii, digits, put_whole};
@@ -14,6 +15,7 @@ use units::Tenths;
 pub const LONGEST: usize = 20 + 3 + 3 + 5 + 3 + 7 * 22 + 1;
 
 /// The bytes of one line. A caller makes it once and fills it again for each event, since a line given back by value is copied.
+// The lists of `arrayvec` lend no room past their end: digits would be made elsewhere and copied, slower than plain Rust.
 #[derive(Debug, Drop)]
 pub struct Line {
     length: usize,
@@ -44,6 +46,7 @@ impl Line {
 
     /// The line of an event, in place of what stood here: its index from 1, 0 or the number of its refusal, the level, if there
     /// is one, and the remaining time, of the state after it, and its actions.
+    // A number: what an event and a play are refused by are types of `sheet`, which stands above.
     #[tactic(auto, using(crate::proofs::LineLaws::lines), unfolding(crate::specs::Line::line_of))]
     pub fn write(
         &mut self,
@@ -147,7 +150,8 @@ impl Line {
         }
     }
 
-    /// A number in decimal, with no leading zeros.
+    /// A number in decimal, with no leading zeros. The library writes to the left of an end, so the length comes first.
+    // Inline: a call takes a tenth longer for each event.
     #[inline]
     #[tactic(auto, using(crate::proofs::DigitLaws::writes))]
     fn append_number(&mut self, number: u64)
@@ -173,9 +177,11 @@ impl Line {
 fn digits_length(number: u64) -> usize
     ensures { result ≡ length (digits number) }
 {
+    // A logarithm is 19 at most.
     number.checked_ilog10().map_or(1, |log| log as usize + 1)
 }
 
+// A byte of a line, which `transitions` knows nothing of.
 fn letter(kind: ActionKind) -> u8
     ensures { result ≡ letter_of kind }
 {

@@ -1,5 +1,5 @@
 -- A full list of actions: what is added past the seventh is dropped. Assumes nothing.
-use Rattle.std.proofs.Common.{ℕ, ◌≡◌, List, ◌++◌, length, take}
+use Rattle.std.proofs.Common.{◌≡◌, List, ◌++◌, length, take}
 use mathlib.Core.Path.{sym, ap, ◌∙◌}
 use Rattle.std.proofs.Math.Seq.{take-append_seam}
 use Rattle.transitions.specs.declared.actions.Action.{Action}

@@ -9,6 +9,8 @@ use native.Mathlib.Nat.{mul-div-le, lt-mul-div-succ, mul-le-mul_left}
 use native.Mathlib.Omega.{arith}
 use borrow.Author.Tests.{ltb-true, ltb-false, leb-true, leb-false, eqb-true, eqb-false, not-true, lt-ltb, le-ltb, le-leb, lt-leb, eq-eqb, ne_eqb}
 use lib.Dec.{ltb, leb, eqb}
+use Rattle.std.proofs.lemmas.Bool.{and_from, and_parts, or_cases, or_left, or_right}
+use Rattle.std.proofs.lemmas.Option.{same_Some}
 use Rattle.units.specs.Numbers.{apart, held_to}
 use Rattle.units.specs.Units.{tenths, is_zero, exceeds, tenths_apart, scaled_floor, later}
 use Rattle.units.specs.declared.Tenths.{Tenths}
@@ -33,13 +35,11 @@ use Rattle.transitions.specs.Types.{Rate}
 use Rattle.transitions.specs.declared.types.OptionsBitmap.{OptionsBitmap}
 use Rattle.transitions.specs.Causes.{Tests}
 use Rattle.transitions.specs.declared.actions.ActionKind.TheVariants.{C}
-use Rattle.transitions.proofs.Booleans.{or_cases, or_first, or_second, and_first, and_second, and_both}
 use Rattle.transitions.proofs.SearchLaws.{found, missed, either}
 use Rattle.transitions.proofs.TaskLaws as task
 use Rattle.transitions.proofs.TaskLaws.{none_is_not_one, one_is, one}
 use Rattle.std.proofs.lemmas.List.{length-take, take_all}
 use Rattle.transitions.proofs.ValueLaws as value
-use Rattle.transitions.proofs.ValueLaws.{known_is}
 use Rattle.transitions.specs.declared.causes.Refusal.{Refusal}
 use Rattle.transitions.specs.declared.causes.Refusal.TheVariants.{InvalidCommand, ProductTooLarge}
 
@@ -61,24 +61,24 @@ module _ (old new : Tenths) (start : Bool) where
 
   at_end : ends ≡ true → Reported old new start
   at_end e =
-      let old-not-0 : old.0 ≡ 0 → ⊥ = eqb-false old.0 0 (not-true (is_zero old) (and_second (is_zero new) (not (is_zero old)) e)) in
-      inl (omega arith, eqb-true new.0 0 (and_first (is_zero new) (not (is_zero old)) e))
+      let old-not-0 : old.0 ≡ 0 → ⊥ = eqb-false old.0 0 (not-true (is_zero old) (and_parts (is_zero new) (not (is_zero old)) e).1) in
+      inl (omega arith, eqb-true new.0 0 (and_parts (is_zero new) (not (is_zero old)) e).0)
 
   at_begin : begins ≡ true → Reported old new start
-  at_begin e = inr (inl (eqb-true old.0 0 (and_first (is_zero old) (exceeds new (tenths 10)) e), ltb-true 10 new.0 (and_second (is_zero old) (exceeds new (tenths 10)) e)))
+  at_begin e = inr (inl (eqb-true old.0 0 (and_parts (is_zero old) (exceeds new (tenths 10)) e).0, ltb-true 10 new.0 (and_parts (is_zero old) (exceeds new (tenths 10)) e).1))
 
   at_jump : jumps ≡ true → Reported old new start
-  at_jump e = inr (inr (ltb-true 10 (apart new.0 old.0) (and_first (exceeds (tenths_apart new old) (tenths 10)) start e), and_second (exceeds (tenths_apart new old) (tenths 10)) start e))
+  at_jump e = inr (inr (ltb-true 10 (apart new.0 old.0) (and_parts (exceeds (tenths_apart new old) (tenths 10)) start e).0, (and_parts (exceeds (tenths_apart new old) (tenths 10)) start e).1))
 
   reported : (ends || begins || jumps) ≡ true → Reported old new start
   reported e = ⊎_elim (λ f. ⊎_elim at_end at_begin (or_cases ends begins f)) at_jump (or_cases (ends || begins) jumps e)
 
   due : Reported old new start → (ends || begins || jumps) ≡ true
   due = ⊎_elim
-      (λ h. or_first (ends || begins) jumps (or_first ends begins (and_both (is_zero new) (not (is_zero old)) (eq-eqb new.0 0 h.1) (rw (ne_eqb old.0 0 (λ z. omega arith)) refl))))
+      (λ h. or_left (ends || begins) jumps (or_left ends begins (and_from (is_zero new) (not (is_zero old)) (eq-eqb new.0 0 h.1) (rw (ne_eqb old.0 0 (λ z. omega arith)) refl))))
       (⊎_elim
-      (λ h. or_first (ends || begins) jumps (or_second ends begins (and_both (is_zero old) (exceeds new (tenths 10)) (eq-eqb old.0 0 h.0) (lt-ltb 10 new.0 h.1))))
-      (λ h. or_second (ends || begins) jumps (and_both (exceeds (tenths_apart new old) (tenths 10)) start (lt-ltb 10 (apart new.0 old.0) h.0) h.1)))
+      (λ h. or_left (ends || begins) jumps (or_right ends begins (and_from (is_zero old) (exceeds new (tenths 10)) (eq-eqb old.0 0 h.0) (lt-ltb 10 new.0 h.1))))
+      (λ h. or_right (ends || begins) jumps (and_from (exceeds (tenths_apart new old) (tenths 10)) start (lt-ltb 10 (apart new.0 old.0) h.0) h.1)))
 
 remaining_report : (old new : Tenths) (start : Bool) → (remaining_time_due old new start ≡ true) ↔ Reported old new start
 unfolding remaining_time_due
@@ -113,7 +113,7 @@ level_report gap last now old new h =
 end_report : (gap last now : Micros) (old new : Level) → current_level_due gap last now true old new ≡ true
 unfolding current_level_due
 end_report gap last now old new =
-    or_first _ _ (or_first _ _ (or_second (leb gap.0 (now.0 - last.0)) true refl))
+    or_left _ _ (or_left _ _ (or_right (leb gap.0 (now.0 - last.0)) true refl))
 
 missing_report : (gap last now : Micros) (end : Bool) (l : Level)
     → (current_level_due gap last now end None l ≡ true) × (current_level_due gap last now end l None ≡ true)
@@ -336,7 +336,7 @@ module _ (ids values : List ℕ) where
   scene_known : (v : ℕ) → (scene_level ids values ≡ Some v) ↔ ((p : Pair) × First decides (pairs ids values) p × (p.value ≡ v))
   scene_known v = (
     λ e. ⊎_elim
-        (λ f. (f.0, f.1, known_is f.0.value v (sym (first_pair f.0 f.1) ∙ e)))
+        (λ f. (f.0, f.1, same_Some f.0.value v (sym (first_pair f.0 f.1) ∙ e)))
         (λ n. absurd (let p = sym (no_pair n) ∙ e in let z : ◌≡◌ {A = ℕ} 0 1 = cc in omega arith))
         (either decides (pairs ids values)),
     λ h. first_pair h.0 h.1 ∙ ap Some h.2,

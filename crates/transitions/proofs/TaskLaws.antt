@@ -9,6 +9,8 @@ use native.Mathlib.Nat.{mul-div-le, lt-mul-div-succ}
 use native.Mathlib.Omega.{arith}
 use borrow.Author.Tests.{ltb-true, ltb-false, eqb-true, eqb-false, eq-eqb}
 use lib.Dec.{ltb, eqb}
+use Rattle.std.proofs.lemmas.Bool.{or_cases, or_left, or_right}
+use Rattle.std.proofs.lemmas.Option.{none-some, same_Some}
 use Rattle.units.specs.Numbers.{apart}
 use Rattle.units.specs.declared.Tenths.{Tenths}
 use Rattle.units.specs.declared.Millis.{Millis}
@@ -29,8 +31,6 @@ use Rattle.transitions.specs.declared.tasks.Task.{Task}
 use Rattle.transitions.specs.declared.tasks.Task.TheVariants as task
 use Rattle.transitions.specs.declared.tasks.Wait.{Wait}
 use Rattle.transitions.specs.declared.tasks.MoveStep.TheVariants as step
-use Rattle.transitions.proofs.Booleans.{or_cases, or_first, or_second}
-use Rattle.transitions.proofs.ValueLaws.{known_is, known_not_missing}
 
 -- Lists of one number
 
@@ -98,8 +98,8 @@ module _ (r : FadeRequest) (now : Micros) where
   begin_11 (Some c) = go (eqb c r.target)
     where
       go : (b : Bool) → (begin_number (cond b Reached (Starts (fade_from c r now))) ≡ 11) ↔ (Some c ≡ None)
-      go true = (λ e. absurd (omega arith), λ e. absurd (known_not_missing c e))
-      go false = (λ e. absurd (omega arith), λ e. absurd (known_not_missing c e))
+      go true = (λ e. absurd (omega arith), λ e. absurd (none-some c (sym e)))
+      go false = (λ e. absurd (omega arith), λ e. absurd (none-some c (sym e)))
   begin_11 None = (λ e. refl, λ e. refl)
 
   pub begin_reached : (level : Level) → (begin_fade level r now ≡ Reached) ↔ (level ≡ Some r.target)
@@ -110,9 +110,9 @@ module _ (r : FadeRequest) (now : Micros) where
       go true e = (λ h. ap Some (eqb-true c r.target e), λ h. refl)
       go false e = (
         λ h. absurd (reached_not_started (fade_from c r now) (sym h)),
-        λ h. absurd (eqb-false c r.target e (known_is c r.target h)),
+        λ h. absurd (eqb-false c r.target e (same_Some c r.target h)),
       )
-  begin_reached None = (λ e. absurd (lost_not_reached e), λ e. absurd (known_not_missing r.target (sym e)))
+  begin_reached None = (λ e. absurd (lost_not_reached e), λ e. absurd (none-some r.target e))
 
   pub begin_asks : (level : Level) (asked : ℕ)
       → (begin_requests (begin_fade level r now) ≡ asked ∷ [])
@@ -125,14 +125,14 @@ module _ (r : FadeRequest) (now : Micros) where
           ↔ ((k : ℕ) × (Some c ≡ Some k) × (k ≡ r.target → ⊥) × (asked ≡ next_level k r.target r.transition_time))
       go true e = (
         λ h. absurd (none_is_not_one asked h),
-        λ h. absurd (h.2 (sym (known_is c h.0 h.1) ∙ eqb-true c r.target e)),
+        λ h. absurd (h.2 (sym (same_Some c h.0 h.1) ∙ eqb-true c r.target e)),
       )
       go false e = (
         λ h. (c, refl, eqb-false c r.target e, sym (one_is (next_level c r.target r.transition_time) asked h)),
         λ h. one (next_level c r.target r.transition_time) asked
-            (ap (λ (k : ℕ). next_level k r.target r.transition_time) (known_is c h.0 h.1) ∙ sym h.3),
+            (ap (λ (k : ℕ). next_level k r.target r.transition_time) (same_Some c h.0 h.1) ∙ sym h.3),
       )
-  begin_asks None asked = (λ h. absurd (none_is_not_one asked h), λ h. absurd (known_not_missing h.0 (sym h.1)))
+  begin_asks None asked = (λ h. absurd (none_is_not_one asked h), λ h. absurd (none-some h.0 h.1))
 
   puts_back : (b : Bool) (c before : ℕ) → (after_fade b c ≡ Some before) ↔ ((b ≡ true) × (before ≡ c))
   puts_back true c before = (λ e. (refl, cc), λ h. ap Some (sym h.1))
@@ -166,13 +166,13 @@ unfolding next_move
 move_11 (Some c) Up = go (ltb c 255)
   where
     go : (b : Bool) → (move_step_number (cond b (step.Asks (c + 1)) step.Ends) ≡ 11) ↔ (Some c ≡ None)
-    go true = (λ e. absurd (omega arith), λ e. absurd (known_not_missing c e))
-    go false = (λ e. absurd (omega arith), λ e. absurd (known_not_missing c e))
+    go true = (λ e. absurd (omega arith), λ e. absurd (none-some c (sym e)))
+    go false = (λ e. absurd (omega arith), λ e. absurd (none-some c (sym e)))
 move_11 (Some c) Down = go (ltb 0 c)
   where
     go : (b : Bool) → (move_step_number (cond b (step.Asks (c - 1)) step.Ends) ≡ 11) ↔ (Some c ≡ None)
-    go true = (λ e. absurd (omega arith), λ e. absurd (known_not_missing c e))
-    go false = (λ e. absurd (omega arith), λ e. absurd (known_not_missing c e))
+    go true = (λ e. absurd (omega arith), λ e. absurd (none-some c (sym e)))
+    go false = (λ e. absurd (omega arith), λ e. absurd (none-some c (sym e)))
 move_11 None mode = (λ e. refl, λ e. refl)
 
 asks_not_ends : (l : ℕ) → step.Asks l ≡ step.Ends → ⊥
@@ -215,7 +215,7 @@ move_passes c = (up (ltb c 255) refl, down (ltb 0 c) refl)
 pub move_end : (asked lo hi : ℕ) → (is_move_end asked lo hi ≡ true) ↔ ((asked ≡ lo) ⊎ (asked ≡ hi))
 move_end asked lo hi = (
   λ e. ⊎_elim (λ f. inr (eqb-true asked hi f)) (λ f. inl (eqb-true asked lo f)) (or_cases (eqb asked hi) (eqb asked lo) e),
-  ⊎_elim (λ h. or_second (eqb asked hi) (eqb asked lo) (eq-eqb asked lo h)) (λ h. or_first (eqb asked hi) (eqb asked lo) (eq-eqb asked hi h)),
+  ⊎_elim (λ h. or_right (eqb asked hi) (eqb asked lo) (eq-eqb asked lo h)) (λ h. or_left (eqb asked hi) (eqb asked lo) (eq-eqb asked hi h)),
 )
 
 up_not_down : Up ≡ Down → ⊥
@@ -226,19 +226,19 @@ pub at_limit_means : (level : Level) (mode : Mode) (lo hi : ℕ)
 unfolding at_limit
 at_limit_means (Some c) Up lo hi = (
   λ e. inr (refl, ap Some (eqb-true c hi e)),
-  ⊎_elim (λ h. absurd (up_not_down h.0)) (λ h. eq-eqb c hi (known_is c hi h.1)),
+  ⊎_elim (λ h. absurd (up_not_down h.0)) (λ h. eq-eqb c hi (same_Some c hi h.1)),
 )
 at_limit_means (Some c) Down lo hi = (
   λ e. inl (refl, ap Some (eqb-true c lo e)),
-  ⊎_elim (λ h. eq-eqb c lo (known_is c lo h.1)) (λ h. absurd (up_not_down (sym h.0))),
+  ⊎_elim (λ h. eq-eqb c lo (same_Some c lo h.1)) (λ h. absurd (up_not_down (sym h.0))),
 )
 at_limit_means None Up lo hi = (
   λ e. absurd (false≢true e),
-  ⊎_elim (λ h. absurd (up_not_down h.0)) (λ h. absurd (known_not_missing hi (sym h.1))),
+  ⊎_elim (λ h. absurd (up_not_down h.0)) (λ h. absurd (none-some hi h.1)),
 )
 at_limit_means None Down lo hi = (
   λ e. absurd (false≢true e),
-  ⊎_elim (λ h. absurd (known_not_missing lo (sym h.1))) (λ h. absurd (up_not_down (sym h.0))),
+  ⊎_elim (λ h. absurd (none-some lo h.1)) (λ h. absurd (up_not_down (sym h.0))),
 )
 
 -- Reactions
@@ -247,11 +247,11 @@ pub stored_back_means : (after : Option ℕ) (on_level : Level) (before : ℕ)
     → (level_to_restore after on_level ≡ Some before) ↔ ((after ≡ Some before) × (on_level ≡ None))
 unfolding level_to_restore
 stored_back_means None on_level before = (
-  λ e. absurd (known_not_missing before (sym e)),
+  λ e. absurd (none-some before e),
   λ h. absurd (let e = h.0 in let z : ◌≡◌ {A = ℕ} 0 1 = cc in omega arith),
 )
-stored_back_means (Some b) (Some c) before = (λ e. absurd (known_not_missing before (sym e)), λ h. absurd (known_not_missing c h.1))
+stored_back_means (Some b) (Some c) before = (λ e. absurd (none-some before e), λ h. absurd (none-some c (sym h.1)))
 stored_back_means (Some b) None before = (
-  λ e. (ap Some (known_is b before e), refl),
+  λ e. (ap Some (same_Some b before e), refl),
   λ h. ap Some (let e = h.0 in let same : b ≡ before = cc in same),
 )

@@ -8,6 +8,8 @@ use mathlib.Core.Logic.{◌↔◌, ◌⊎◌, inl, inr, ⊎_elim}
 use native.Mathlib.Omega.{arith}
 use borrow.Author.Tests.{lt-ltb, ltb-true, eqb-true, eq-eqb}
 use lib.Dec.{ltb}
+use Rattle.std.proofs.lemmas.Bool.{or_cases, or_left, or_right}
+use Rattle.std.proofs.lemmas.Option.{none-some, same_Some}
 use Rattle.transitions.specs.Types.{same_level, is_outside, is_zero_rate}
 use Rattle.transitions.specs.Commands.{step_level}
 use Rattle.transitions.specs.Events.{turn_causes}
@@ -17,32 +19,25 @@ use Rattle.transitions.specs.Types.{Rate}
 use Rattle.transitions.specs.declared.events.DeviceAnswer.{DeviceAnswer}
 use Rattle.transitions.specs.declared.events.EventKind.{EventKind}
 use Rattle.transitions.specs.declared.events.EventKind.TheVariants as kind
-use Rattle.transitions.proofs.Booleans.{or_cases, or_first, or_second}
-
-pub known_is : (a b : ℕ) → Some a ≡ Some b → a ≡ b
-known_is a b e = cc
-
-pub known_not_missing : (c : ℕ) → Some c ≡ None → ⊥
-known_not_missing c e = let z : ◌≡◌ {A = ℕ} 0 1 = cc in omega arith
 
 pub same_level_means : (a b : Level) → (same_level a b ≡ true) ↔ (a ≡ b)
 unfolding same_level
-same_level_means (Some a) (Some b) = (λ e. ap Some (eqb-true a b e), λ h. eq-eqb a b (known_is a b h))
-same_level_means (Some a) None = (λ e. absurd (false≢true e), λ h. absurd (known_not_missing a h))
-same_level_means None (Some b) = (λ e. absurd (false≢true e), λ h. absurd (known_not_missing b (sym h)))
+same_level_means (Some a) (Some b) = (λ e. ap Some (eqb-true a b e), λ h. eq-eqb a b (same_Some a b h))
+same_level_means (Some a) None = (λ e. absurd (false≢true e), λ h. absurd (none-some a (sym h)))
+same_level_means None (Some b) = (λ e. absurd (false≢true e), λ h. absurd (none-some b h))
 same_level_means None None = (λ e. refl, λ h. refl)
 
 pub outside : (level : Level) (lo hi : ℕ) → (is_outside level lo hi ≡ true) ↔ ((c : ℕ) × (level ≡ Some c) × ((c < lo) ⊎ (hi < c)))
 outside (Some c) lo hi = (
   λ e. (c, refl, ⊎_elim (λ f. inl (ltb-true c lo f)) (λ f. inr (ltb-true hi c f)) (or_cases (ltb c lo) (ltb hi c) e)),
   λ h.
-      let same : c ≡ h.0 = known_is c h.0 h.1 in
+      let same : c ≡ h.0 = same_Some c h.0 h.1 in
       ⊎_elim
-      (λ g. or_first (ltb c lo) (ltb hi c) (lt-ltb c lo (omega (arith, same))))
-      (λ g. or_second (ltb c lo) (ltb hi c) (lt-ltb hi c (omega (arith, same))))
+      (λ g. or_left (ltb c lo) (ltb hi c) (lt-ltb c lo (omega (arith, same))))
+      (λ g. or_right (ltb c lo) (ltb hi c) (lt-ltb hi c (omega (arith, same))))
       h.2,
 )
-outside None lo hi = (λ e. absurd (false≢true e), λ h. absurd (known_not_missing h.0 (sym h.1)))
+outside None lo hi = (λ e. absurd (false≢true e), λ h. absurd (none-some h.0 h.1))
 
 pub rate_0 : (r : Rate) → (is_zero_rate r ≡ true) ↔ (r ≡ Some 0)
 rate_0 (Some r) = (λ e. ap Some (eqb-true r 0 e), λ h. eq-eqb r 0 cc)

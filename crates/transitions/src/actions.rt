@@ -1,4 +1,4 @@
-//! What an event does, in order.
+//! What an event does, in order (docs/RULES.md, Events and answers).
 //! Derived from level_control.rs of project-chip/rs-matter 43f61585a4 (see NOTICE), and changed: its calls are actions here.
 ghost use Rattle.std.specs.Prelude.{◌≡◌, ◌≤◌, List, [], ◌++◌, length};
 ghost use Rattle.transitions.specs.Actions.{held, held_coupled, held_if};
@@ -28,7 +28,7 @@ pub enum ActionKind {
 
 /// The value is the level of D, 0 or 1 of C, the time of W in µs, the number of E, and 0 of the others. The default, X with 0,
 /// stands in a slot that is not filled.
-// A letter and a number, as C reads them and the sheet shows them.
+// A letter and a value, as the rules have an action and a slot that is not filled.
 #[derive(Clone, Copy, Debug, Default, PartialEq, Eq)]
 pub struct Action {
     pub kind: ActionKind,
@@ -48,6 +48,7 @@ impl Model for Actions {
 }
 
 impl Actions {
+    /// An empty list.
     pub fn new() -> Self
         ensures { result ≡ [] }
     {
@@ -56,13 +57,14 @@ impl Actions {
         }
     }
 
+    /// Empties the list.
     pub fn clear(&mut self)
         ensures { self.new ≡ [] }
     {
         self.list.clear();
     }
 
-    /// Adds an action; a full list drops it, and no event gives more (`every_event_holds`).
+    /// Adds an action. A full list leaves it out; no event gives more than seven (`every_event_holds`).
     #[tactic(auto, using(crate::proofs::ActionLaws::full))]
     pub fn push(&mut self, kind: ActionKind, value: u64)
         ensures { self.new ≡ held (self.old ++ act kind value) }
@@ -90,6 +92,7 @@ impl Actions {
         }
     }
 
+    /// Its actions, in order.
     pub fn as_slice(&self) -> &[Action]
         ensures all { result.now ≡ self.now }
         ensures within { length result.now ≤ 7 }

@@ -5,23 +5,16 @@ ghost use Rattle.transitions.specs.Scene.{scene_level};
 
 use crate::types::Level;
 
-/// The pairs are the first and the rest of two lent slices, and are read up to the shorter length; a value above 255
-/// stands for none.
+/// The pairs of two lent slices, up to the shorter length; a value above 255 stands for none.
+#[tactic(auto, unfolding(crate::specs::Scene::scene_level))]
 pub fn scene_level(ids: &[u32], values: &[u16]) -> Level
     ensures { result ≡ scene_level ids.now values.now }
 {
-    if ids.len() == 0 {
+    let (Some((id, ids)), Some((value, values))) = (ids.split_first(), values.split_first()) else {
         return None;
+    };
+    match u8::try_from(*value) {
+        Ok(level) if *id == 0 => Some(level),
+        _ => scene_level(ids, values),
     }
-    if values.len() == 0 {
-        return None;
-    }
-    let id = ids[0];
-    let value = values[0];
-    if id == 0 {
-        if value <= 255 {
-            return Some(value as u8);
-        }
-    }
-    scene_level(&ids[1..], &values[1..])
 }

@@ -105,6 +105,7 @@ pub enum MoveStep {
     Asks(u8),
 }
 
+// A fade and a move keep different values: what is said of both, here and below, is shorter than a trait.
 impl Task {
     /// The request to the device that is open.
     pub fn open_request(self) -> Option<Request>
@@ -192,7 +193,6 @@ impl Fade {
     }
 }
 
-// A fade and a move keep different values: what is said of both here is shorter than a trait.
 impl MoveCourse {
     /// With a request open.
     pub fn asking(self, asked: u8, now: Micros) -> Move
