@@ -1,6 +1,6 @@
 -- Laws of the sheet: one event more, a part of the output that was lent, and a text that fits. Assumes nothing.
 use Rattle.std.specs.Prelude.{Ok, Err}
-use Prim.Native.Nat.{ℕ, suc, ◌+◌, ◌-◌, ◌/◌, ◌<◌, ◌≤◌, min}
+use Prim.Native.Nat.{ℕ, suc, ◌+◌, ◌/◌, ◌<◌, ◌≤◌, min}
 use mathlib.Core.Path.{◌≡◌, sym, ap, ◌∙◌}
 use mathlib.Core.List.{List, [], ◌++◌}
 use mathlib.Core.Logic.{⊎_elim}
@@ -12,7 +12,7 @@ use lib.Dec.{leb}
 use lib.ListN.{length, take, drop, length-append, length-drop, take-append-drop}
 use lib.Seq.{length-take-le, take_at, drop_at, length-sets, sets, sets-eq}
 use Rattle.std.proofs.lemmas.Bool.{cases_lt}
-use Rattle.std.proofs.lemmas.List.{nil_from_length, take_rest}
+use Rattle.std.proofs.lemmas.List.{nil_from_length}
 use Rattle.text.specs.Text.{Room, Wrote, most, put_whole}
 use Rattle.text.proofs.WriteLaws.{sets_append, sets_out, then, first_room, whole_next, whole_wrote}
 use Rattle.level_control.specs.declared.state.LevelControlState.{LevelControlState}
@@ -63,10 +63,6 @@ at_least n e = ⊎_elim (λ h. absurd (false≢true (rw (lt-ltb n 20 h) at e))) 
 pub at_most : (n : ℕ) → length_ok n ≡ true → n ≤ 5120
 unfolding length_ok
 at_most n e = ⊎_elim (λ h. absurd (false≢true (rw (le-ltb n 20 (omega arith), lt-ltb 5120 n h) at e))) (λ h. h) (cases_lt 5120 n)
-
--- what stands after the settings is all but they
-pub tail_is : (l : List ℕ) → take (length l - 20) (drop 20 l) ≡ drop 20 l
-tail_is l = take_rest l 20
 
 -- lines that are said to fit surely
 pub sure : (bytes room : ℕ) {test : Bool} → test ≡ leb bytes room → test ≡ true → bytes ≤ room

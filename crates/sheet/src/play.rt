@@ -21,7 +21,7 @@ pub fn length_ok(length: usize) -> bool
 }
 
 /// The sheet at the front of out and its length, or a refusal and out as it was.
-#[tactic(auto, using(crate::proofs::SheetLaws::at_least, crate::proofs::SheetLaws::at_most, crate::proofs::SheetLaws::tail_is), unfolding(crate::specs::Play::play_of, crate::specs::Play::play_with))]
+#[tactic(auto, using(crate::proofs::SheetLaws::at_least, crate::proofs::SheetLaws::at_most, std::proofs::lemmas::List::take_rest), unfolding(crate::specs::Play::play_of, crate::specs::Play::play_with))]
 pub fn play(records: &[u8], out: &mut [u8]) -> Result<usize, PlayRefusal>
     ensures out_after { (result, out.new) ≡ play_of records.now out.old }
     ensures result_bound { written result ≤ 48195 }
