@@ -128,6 +128,31 @@ abbrev pub only_onward : Run → List Event → Bool
 only_onward r [] = true
 only_onward r (e ∷ es) = (not (accepted r.state e) || is_onward e.kind) && only_onward (next r e) es
 
+-- A lamp that gives back each level that it was asked for.
+
+-- the level asked for last, or 0 where none was
+abbrev pub last_of : List ℕ → ℕ
+last_of [] = 0
+last_of (x ∷ []) = x
+last_of (x ∷ y ∷ l) = last_of (y ∷ l)
+
+abbrev pub gives_back : DeviceAnswer → ℕ → Bool
+gives_back (device.Level v) asked = eqb v asked
+gives_back device.Missing asked = false
+gives_back device.Failed asked = false
+
+-- an answer that gives back the level asked for last, and a wake
+abbrev pub is_echo : EventKind → ℕ → Bool
+is_echo kind.StartUp asked = false
+is_echo (kind.Answer a) asked = gives_back a asked
+is_echo kind.Wake asked = true
+is_echo (kind.Command c) asked = false
+
+-- of the events, refused ones included, only these are accepted
+abbrev pub only_echo : Run → List Event → Bool
+only_echo r [] = true
+only_echo r (e ∷ es) = (not (accepted r.state e) || is_echo e.kind (last_of r.asked)) && only_echo (next r e) es
+
 -- every event is refused
 abbrev pub all_refused : LevelControlState → List Event → Bool
 all_refused s [] = true
