@@ -107,7 +107,7 @@ fn run() {
     let recorded = oracle::plays(&list);
     let all: Vec<Play> = (1..)
         .zip(&recorded)
-        .filter_map(|(number, play)| played(&format!("recorded play {number}"), play))
+        .filter_map(|(number, play)| played(&format!("recorded play {number}"), play.records))
         .collect();
     let made: Vec<(&str, Play)> = made
         .iter()

@@ -5,7 +5,8 @@ import subprocess
 import tempfile
 from pathlib import Path
 
-from plays.records import pack_list, read_settings
+from plays.lists import pack_list
+from plays.records import read_settings
 
 ROOT = Path(__file__).resolve().parent.parent
 SOURCE = 'rs-matter-dm--src--clusters--app--level_control.rs.txt'
@@ -40,9 +41,9 @@ def rust(state=False):
     return [BENCH, *['--state'] * state, '/dev/stdin']
 
 
-def sheet(play):
+def sheet(records):
     """The sheet of one play, from the bench."""
-    return subprocess.run([BENCH], input=play, stdout=subprocess.PIPE, check=True).stdout.decode()
+    return subprocess.run([BENCH], input=records, stdout=subprocess.PIPE, check=True).stdout.decode()
 
 
 def sheets(program, plays):
@@ -56,3 +57,9 @@ def sheets(program, plays):
     if done.returncode or before or numbers != [str(number + 1) for number in range(len(plays))]:
         raise Failed('%s: status %d after %d of %d plays' % (program[0], done.returncode, len(texts), len(plays)))
     return texts
+
+
+def sheet_and_states(text):
+    """A sheet with the whole state after each line, taken apart: a line of the state begins with a space."""
+    lines = text.splitlines(keepends=True)
+    return tuple(''.join(line for line in lines if (line[0] == ' ') == of_state) for of_state in (False, True))

@@ -1,6 +1,7 @@
 """Short plays, all of them: every level and target, every level and step, every rate, every value of each byte of a record."""
 from plays.model import SECOND, settings_number
 from plays.records import *
+from plays.scenes import Play, decided, pack, small_lists
 
 TIMES = (None, 0, 1, 3, 11, 100, 16384, 65535)
 EVENTS = 255
@@ -13,6 +14,19 @@ def plays(rows):
     yield from rates()
     yield from bytes_of_events()
     yield from bytes_of_settings(rows)
+
+
+def scenes_of_small_lists():
+    """Each small list as the pairs of a scene, and the answer if there is a request. Unlike the others these are plays with their pairs."""
+    lists = list(small_lists())
+    for first in range(0, len(lists), EVENTS // 3):
+        some, events = lists[first:first + EVENTS // 3], []
+        for number, (ids, values) in enumerate(some):
+            level, at = decided(ids, values), 5 * SECOND * number
+            events += [update(at, 100), scene(at, level), answer(at, 101)]
+        records, pairs = b''.join([settings(MIN=0, level=0), *events]), [pack(*pair) for pair in some]
+        yield Play(records, b''.join(pairs))
+    yield Play(records, b''.join(pairs[:len(pairs) // 2]))      # the other scenes have the pair that their record names
 
 
 def packed(record, cases):

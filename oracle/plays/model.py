@@ -3,6 +3,7 @@
 import struct
 from types import SimpleNamespace
 
+from plays import scenes
 from plays.records import records_of, time_of, well_formed, well_formed_settings
 
 SECOND = 1_000_000
@@ -41,6 +42,7 @@ class Lamp:
         self.asked_at = None        # time of the open request
         self.wait_until = None
         self.actions = []
+        self.lists = None           # of the scene in hand, if they are given
 
     # ---- Remaining time, Options, Level reports, Coupling
 
@@ -281,8 +283,12 @@ class Lamp:
             self.move_to_level(self.MIN, tenths, with_on_off=1, restore=[self.level])
 
     def event_8(self, e):
-        if e[12]:
-            self.move_to_level(e[13], min(struct.unpack_from('<I', e, 14)[0] // 100, 65535), scene=True)
+        level = self.decided(*(self.lists or scenes.named_lists(e)))
+        if level is not None:
+            self.move_to_level(level, min(struct.unpack_from('<I', e, 14)[0] // 100, 65535), scene=True)
+
+    def decided(self, ids, values):
+        return scenes.decided(ids, values)
 
     def event_9(self, e):
         self.end_task()
@@ -333,14 +339,15 @@ def known(value):
 
 def sheet(play, state=False, model=Lamp):
     """The text of a play, with the whole state after each line if asked; up to a double borrow."""
-    if not 20 <= len(play) <= 5120 or len(play) % 20:
+    records = play.records
+    if not 20 <= len(records) <= 5120 or len(records) % 20:
         return '0 1\n'
-    number = settings_number(play)
+    number = settings_number(records)
     if number:
         return '0 %d\n' % number
-    lamp, text = model(play[:20]), []
+    lamp, text = model(records[:20]), []
     try:
-        for index, record in enumerate(records_of(play)[1:], 1):
+        for index, (record, lamp.lists) in enumerate(zip(records_of(records)[1:], scenes.lists_of(play)), 1):
             text.append(lamp.line(index, *lamp.event(record)))
             if state:
                 text.append(lamp.state_line())

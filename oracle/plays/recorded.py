@@ -2,9 +2,11 @@
 import hashlib
 import random
 
-from plays import bench, exhaustive, random_plays
+from plays import bench, exhaustive, random_plays, scenes
+from plays.lists import pack_list, unpack_list
 from plays.named import NAMED, STATE
-from plays.records import KINDS, describe, pack_list, records_of, unpack_list
+from plays.records import records_of
+from plays.words import KINDS, describe
 
 FOLDER = bench.ROOT / 'recorded'
 INPUT = bench.ROOT / '../crates/replay/stdin'     # the same list again
@@ -19,7 +21,7 @@ class Wrong(Exception):
 
 
 def chosen():
-    """Names and plays, in the order of the list."""
+    """Names and records, in the order of the list."""
     for name, play, _ in NAMED:
         yield name, play
     R = random.Random(SEED)
@@ -34,17 +36,22 @@ def chosen():
 
 def make():
     """The bytes of the list and the text of its index."""
-    names, plays = zip(*chosen())
-    texts = bench.sheets(bench.rust(), plays)
-    check_named(texts)
-    check_whole(plays, texts)
+    names, records = zip(*chosen())
+    plays = [scenes.with_pairs('recorded %d' % number, bytes(play)) for number, play in enumerate(records, 1)]
+    whole = bench.sheets(bench.rust(state=True), plays)
+    sheets, states = zip(*map(bench.sheet_and_states, whole))
+    if bench.sheets(bench.rust(), plays) != [*sheets]:
+        raise Wrong('the sheets with the state are not those without')
+    check_named(sheets)
+    check_whole(plays, sheets)
+    check_pairs(plays)
     index = ['%d  %s: %s\n' % (number, name, describe(play)) for number, (name, play) in enumerate(zip(names, plays), 1)]
-    return pack_list(plays, [text.encode() for text in texts]), ''.join(index)
+    return pack_list(plays, [sheet.encode() for sheet in sheets], [state.encode() for state in states]), ''.join(index)
 
 
 def check_named(texts):
     """The named plays come first, and first of all the small play."""
-    states = bench.sheets(bench.rust(state=True), [play for _, play, _ in STATE])
+    states = bench.sheets(bench.rust(state=True), [scenes.Play(bytes(records)) for _, records, _ in STATE])
     alone = bench.sheet(NAMED[0][1])
     for (name, _, wanted), given in zip([*NAMED, *STATE, NAMED[0]], [*texts[:len(NAMED)], *states, alone]):
         if given != wanted:
@@ -60,7 +67,7 @@ def check_whole(plays, texts):
         if text.startswith('0 '):
             numbers.add(text.strip())
             continue
-        for record, line in zip(records_of(play)[1:], text.splitlines()):
+        for record, line in zip(records_of(play.records)[1:], text.splitlines()):
             _, number, _, _, *done = line.split()
             kinds.add((record[2], number == '0'))
             numbers.add(number)
@@ -70,6 +77,19 @@ def check_whole(plays, texts):
     missing |= {'D', 'P', 'S', 'C0', 'C1', 'L', 'R', 'W', 'E11', 'E15', 'K', 'X'} - actions
     if missing:
         raise Wrong('the list lacks %s' % missing)
+
+
+def check_pairs(plays):
+    """The ids and values that tell wrong searches apart, up to 20 pairs, and lists of which either is the longer."""
+    lists = [pair for play in plays for pair in scenes.unpack(play.pairs)]
+    ids, values = ({number for pair in lists for number in pair[of]} for of in (0, 1))
+    longer = {(len(pair[0]) > len(pair[1])) - (len(pair[0]) < len(pair[1])) for pair in lists}
+    if not (ids >= {*scenes.IDS} and values >= {*scenes.VALUES} and longer == {-1, 0, 1}):
+        raise Wrong('the scenes lack an id, a value, or lists of unequal length')
+    if len(lists) >= sum(scenes.is_scene(record) for play in plays for record in records_of(play.records)[1:] if len(play.records) % 20 == 0):
+        raise Wrong('every scene has pairs')
+    if max(min(map(len, pair)) for pair in lists) != scenes.MOST or max(max(map(len, pair)) for pair in lists) != scenes.MOST:
+        raise Wrong('the scenes have not up to %d pairs' % scenes.MOST)
 
 
 def plays():
@@ -89,5 +109,5 @@ def verify():
     for name, made in (('plays', data), ('plays.txt', index.encode())):
         if (FOLDER / name).read_bytes() != made:
             raise Wrong('recorded/%s is not what the bench gives' % name)
-    _, texts = unpack_list(data)
-    return len(texts), sum(text.count(b'\n') for text in texts)
+    _, sheets, _ = unpack_list(data)
+    return len(sheets), sum(sheet.count(b'\n') for sheet in sheets)

@@ -2,11 +2,12 @@
 
     python3 -m plays.stand_in_port [--state] MODEL < LIST
 """
+import itertools
 import sys
 
 from plays import model
+from plays.lists import unpack_list
 from plays.model import SECOND, Lamp
-from plays.records import unpack_list
 
 
 class Right(Lamp):
@@ -105,6 +106,59 @@ class Gives8ForADamagedRecord(Lamp):
     def refusal(self, e):
         number = super().refusal(e)
         return 8 if number == 1 else number
+
+
+# ---- Wrong searches of a scene's pairs
+
+
+class ComparesIdsIn16Bits(Lamp):
+    def decided(self, ids, values):
+        return super().decided([name & 0xFFFF for name in ids], values)
+
+
+class ComparesIdsIn31Bits(Lamp):
+    def decided(self, ids, values):
+        return super().decided([name & 0x7FFF_FFFF for name in ids], values)
+
+
+class Takes0ForNone(Lamp):
+    def decided(self, ids, values):
+        return super().decided(ids, [value or 256 for value in values])
+
+
+class Takes255ForNone(Lamp):
+    def decided(self, ids, values):
+        return super().decided(ids, [256 if value == 255 else value for value in values])
+
+
+class ReadsValuesIn8Bits(Lamp):
+    def decided(self, ids, values):
+        return super().decided(ids, [value & 0xFF for value in values])
+
+
+class ReadsEightPairs(Lamp):
+    def decided(self, ids, values):
+        return super().decided(ids[:8], values)
+
+
+class SkipsTheFirstPair(Lamp):
+    def decided(self, ids, values):
+        return super().decided(ids[1:], values[1:])
+
+
+class TakesTheLastPair(Lamp):
+    def decided(self, ids, values):
+        return super().decided(*zip(*[*reversed([*zip(ids, values)]), (1, 256)]))
+
+
+class EndsAtAnIdWithoutAValue(Lamp):
+    def decided(self, ids, values):
+        return super().decided(ids[:ids.index(0) + 1] if 0 in ids else ids, values)
+
+
+class ReadsPastTheShorterList(Lamp):
+    def decided(self, ids, values):
+        return super().decided(*zip(*[(1, 256), *itertools.zip_longest(ids, values, fillvalue=0)]))
 
 
 # ---- Wrong in the state alone

@@ -6,7 +6,6 @@ use std::rc::Rc;
 
 use crate::dm::clusters::app::level_control::*;
 use crate::dm::clusters::app::on_off::{self, OnOffHandler, OnOffHooks};
-use crate::dm::clusters::decl::scenes_management::AttributeValuePairStruct;
 use crate::dm::clusters::scenes::{SceneClusterHandler, SceneInvalidator};
 use crate::dm::{Cluster, Ctx, Dataver, EndptId, LifecycleOp};
 use crate::error::{Error, ErrorCode};
@@ -14,7 +13,7 @@ use crate::play::{self, Record, State};
 use crate::stops::{caught, Stop};
 use crate::tlv::TLVArray;
 use crate::utils::timers::Instant;
-use crate::{refusals, SETTINGS};
+use crate::SETTINGS;
 
 // ---- The hooks
 
@@ -151,7 +150,7 @@ impl<const ROW: usize> Lamp for Handler<ROW> {
             (7, on) => self.coupled_on_off_cluster_on_off_state_change(on == 1),
             (8, _) => {
                 let millis = u32::from_le_bytes(e[14..18].try_into().unwrap());
-                let pairs = scene_pairs(e);
+                let pairs = play::scene();
                 let pairs = TLVArray(&pairs);
                 let mut applied = pin!(self.apply(&Ctx, &pairs, millis));
                 let Poll::Ready(result) = applied
@@ -208,24 +207,6 @@ fn request(e: &Record) -> Request<'static> {
             ..request
         },
     }
-}
-
-/// The pair of an event 8 among pairs that do not decide: before it, none, one or two without a level for this cluster; after
-/// it another attribute and a second level.
-fn scene_pairs(e: &Record) -> Vec<AttributeValuePairStruct<'static>> {
-    let value = (e[12] == 1).then_some(e[13]);
-    let pairs = [
-        (0, None),
-        (7, Some(99)),
-        (0, value),
-        (1, Some(3)),
-        (0, value.map(|level| level ^ 1)),
-    ];
-    let skipped = refusals::time(e) as usize % 3;
-    pairs[skipped..]
-        .iter()
-        .map(|&(id, value)| AttributeValuePairStruct::new(id, value))
-        .collect()
 }
 
 // ---- A play

@@ -6,6 +6,7 @@ mod stand_ins;
 mod lamp;
 mod play;
 mod refusals;
+mod scenes;
 mod stops;
 
 use lamp::Ending;
@@ -18,8 +19,23 @@ pub use stops::{caught, keep_panics, Stop};
 
 include!(concat!(env!("OUT_DIR"), "/settings.rs"));
 
-/// The plays of a list; the sheets in it are passed over.
-pub fn plays(list: &[u8]) -> Vec<&[u8]> {
+/// What is played: the records, and the pairs of the scenes among them (README.md, "A list of plays").
+#[derive(Clone, Copy)]
+pub struct Play<'a> {
+    pub records: &'a [u8],
+    pub pairs: &'a [u8],
+}
+
+/// Records alone: each scene has the one pair that its record names, or none.
+impl<'a> From<&'a [u8]> for Play<'a> {
+    fn from(records: &'a [u8]) -> Self {
+        let pairs = &[];
+        Self { records, pairs }
+    }
+}
+
+/// The plays of a list; the sheets and states in it are passed over.
+pub fn plays(list: &[u8]) -> Vec<Play<'_>> {
     let mut rest = list;
     let mut take = |count: usize| {
         let (taken, left) = rest.split_at_checked(count).expect("a whole list of plays");
@@ -27,14 +43,16 @@ pub fn plays(list: &[u8]) -> Vec<&[u8]> {
         taken
     };
     let word = |bytes: &[u8]| u32::from_le_bytes(bytes.try_into().unwrap());
-    assert!(take(8) == b"LCPLAYS1", "not a list of plays");
+    assert!(take(8) == b"LCPLAYS2", "not a list of plays");
     let (count, sum) = (word(take(4)), word(take(4)));
     let plays = (0..count)
         .map(|_| {
-            let (records, sheet) = (word(take(4)) as usize, word(take(4)) as usize);
-            let play = take(records);
+            let [records, sheet, states, pairs] = [(); 4].map(|()| word(take(4)) as usize);
+            let records = take(records);
             take(sheet);
-            play
+            take(states);
+            let pairs = take(pairs);
+            Play { records, pairs }
         })
         .collect();
     let summed = list[16..]
@@ -45,13 +63,13 @@ pub fn plays(list: &[u8]) -> Vec<&[u8]> {
 }
 
 /// The sheet of a play, with the whole state after each line if asked.
-pub fn sheet(records: &[u8], print_state: bool) -> String {
+pub fn sheet<'a>(play: impl Into<Play<'a>>, print_state: bool) -> String {
     let keep = if print_state {
         Keep::LinesAndState
     } else {
         Keep::Lines
     };
-    match run_play(records, keep) {
+    match run_play(play.into(), keep) {
         Ending::Refused(number) => format!("0 {number}\n"),
         Ending::Played => play::take().sheet,
         Ending::Cut(line) => {
@@ -63,12 +81,13 @@ pub fn sheet(records: &[u8], print_state: bool) -> String {
 
 /// A play without its text, or bare: nothing is read that the handler does not read itself.
 pub fn tally(records: &[u8], bare: bool) -> Tally {
-    run_play(records, if bare { Keep::BareTally } else { Keep::Tally });
+    let keep = if bare { Keep::BareTally } else { Keep::Tally };
+    run_play(records.into(), keep);
     play::take().tally
 }
 
 /// Runs a play; what it leaves behind is then to be taken.
-fn run_play(records: &[u8], keep: Keep) -> Ending {
+fn run_play(Play { records, pairs }: Play, keep: Keep) -> Ending {
     if !(20..=5120).contains(&records.len()) || records.len() % 20 != 0 {
         return Ending::Refused(1);
     }
@@ -82,7 +101,7 @@ fn run_play(records: &[u8], keep: Keep) -> Ending {
     let row = SETTINGS
         .binary_search(&without_missing(settings))
         .unwrap_or_else(|_| panic!("settings.txt has no line for {settings:02X?}"));
-    play::start(records.collect(), keep);
+    play::start(records.collect(), scenes::read_pairs(pairs), keep);
     RUN_PLAY[row]()
 }
 

@@ -32,13 +32,13 @@ fn run() {
         [] => {
             let mut records = vec![];
             std::io::stdin().read_to_end(&mut records).unwrap();
-            out.write_all(sheet(&records, print_state).as_bytes())
+            out.write_all(sheet(&records[..], print_state).as_bytes())
                 .unwrap();
         }
         [list] => {
             let list = std::fs::read(list).unwrap_or_else(|e| panic!("{list}: {e}"));
-            for (i, records) in plays(&list).into_iter().enumerate() {
-                write!(out, "# play {}\n{}", i + 1, sheet(records, print_state)).unwrap();
+            for (i, play) in plays(&list).into_iter().enumerate() {
+                write!(out, "# play {}\n{}", i + 1, sheet(play, print_state)).unwrap();
             }
         }
         _ => panic!("usage: oracle [--state] [LIST]"),

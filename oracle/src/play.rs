@@ -8,6 +8,7 @@ use std::rc::Rc;
 use crate::dm::clusters::app::level_control::OutOfBandMessage;
 use crate::lamp::Lamp;
 use crate::refusals::{self, Pending};
+use crate::scenes::{self, Pairs};
 
 pub type Record = [u8; 20];
 
@@ -65,6 +66,10 @@ pub struct Tally {
 #[derive(Default)]
 pub struct Play {
     events: std::vec::IntoIter<Record>,
+    /// Of the scenes to come, as far as they are given.
+    pairs: std::vec::IntoIter<Pairs>,
+    /// Of the scene in hand.
+    scene: Pairs,
     keep: Keep,
     lamp: Option<Rc<dyn Lamp>>,
     /// Of the event in hand, counted from 1.
@@ -94,10 +99,11 @@ fn with<R>(f: impl FnOnce(&mut Play) -> R) -> R {
     PLAY.with_borrow_mut(f)
 }
 
-pub fn start(events: Vec<Record>, keep: Keep) {
+pub fn start(events: Vec<Record>, pairs: Vec<Pairs>, keep: Keep) {
     with(|play| {
         *play = Play {
             events: events.into_iter(),
+            pairs: pairs.into_iter(),
             keep,
             // As if a look were under way, so that no other begins.
             looking: keep == Keep::BareTally,
@@ -250,11 +256,24 @@ pub fn device(level: u8) -> Result<Option<u8>, ()> {
 
 // ---- Events and lines
 
+/// A scene takes its pairs with it, also where it will be refused.
 pub fn next_event() -> Option<Record> {
     with(|play| {
         play.index += 1;
-        play.events.next()
+        let event = play.events.next()?;
+        if event[2] == 8 && refusals::well_formed(&event) {
+            play.scene = play
+                .pairs
+                .next()
+                .unwrap_or_else(|| scenes::named_pairs(&event));
+        }
+        Some(event)
     })
+}
+
+/// The pairs of the scene in hand.
+pub fn scene() -> Pairs {
+    with(|play| std::mem::take(&mut play.scene))
 }
 
 pub fn refusal(event: &Record, request_open: bool) -> Option<u8> {

@@ -48,7 +48,7 @@ pub fn of_event(event: &Record, pending: &Pending) -> Option<u8> {
     }
 }
 
-fn well_formed(event: &Record) -> bool {
+pub fn well_formed(event: &Record) -> bool {
     let flags = |places: &[usize]| places.iter().all(|&at| event[at] <= 1);
     let zero_from = |at: usize| event[at..].iter().all(|&byte| byte == 0);
     event.starts_with(b"LE")

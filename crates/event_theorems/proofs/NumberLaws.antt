@@ -38,7 +38,7 @@ use Rattle.event_theorems.specs.ByField.{stopped}
 use Rattle.transitions.specs.declared.causes.Refusal.TheVariants.{InvalidCommand}
 use Rattle.transitions.specs.declared.events.Command.TheVariants as command
 
-open_is : (t : Task) → task_open t ≡ request_open t
+pub open_is : (t : Task) → task_open t ≡ request_open t
 open_is task.Rest = refl
 open_is task.StartUp = refl
 open_is (task.Fade f) = by f.phase

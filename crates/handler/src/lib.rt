@@ -7,7 +7,7 @@ ghost use Rattle.std.specs.Prelude.{◌≡◌};
 ghost use Rattle.transitions.specs.Scene.{scene_of};
 ghost use Rattle.transitions.specs.declared.events.Command.TheVariants as command;
 ghost use Rattle.transitions.specs.declared.events.EventKind.TheVariants as kinds;
-ghost use Rattle.handler.specs.Answers.{command_answer, event_answer};
+ghost use Rattle.handler.specs.Answers.{DefaultMoveRateSet, OnLevelSet, StartUpCurrentLevelSet, command_answer, event_answer};
 
 use level_control::answer::Answer;
 use level_control::state::LevelControlState;
@@ -110,20 +110,26 @@ impl LevelControlHandler {
         self.command(moment, Command::DeviceStop)
     }
 
+    #[tactic(auto, using(crate::proofs::SetterLaws::set_on_level_sets))]
     pub fn set_on_level(mut self, moment: Moment, level: Level) -> Answer
-        ensures { result ≡ command_answer self.state moment (command.SetOnLevel level) }
+        ensures gives { result ≡ command_answer self.state moment (command.SetOnLevel level) }
+        ensures sets { OnLevelSet self.state level result }
     {
         self.command(moment, Command::SetOnLevel(level))
     }
 
+    #[tactic(auto, using(crate::proofs::SetterLaws::set_default_move_rate_sets))]
     pub fn set_default_move_rate(mut self, moment: Moment, rate: Rate) -> Answer
-        ensures { result ≡ command_answer self.state moment (command.SetDefaultMoveRate rate) }
+        ensures gives { result ≡ command_answer self.state moment (command.SetDefaultMoveRate rate) }
+        ensures sets { DefaultMoveRateSet self.state rate result }
     {
         self.command(moment, Command::SetDefaultMoveRate(rate))
     }
 
+    #[tactic(auto, using(crate::proofs::SetterLaws::set_start_up_current_level_sets))]
     pub fn set_start_up_current_level(mut self, moment: Moment, level: Level) -> Answer
-        ensures { result ≡ command_answer self.state moment (command.SetStartUpCurrentLevel level) }
+        ensures gives { result ≡ command_answer self.state moment (command.SetStartUpCurrentLevel level) }
+        ensures sets { StartUpCurrentLevelSet self.state level result }
     {
         self.command(moment, Command::SetStartUpCurrentLevel(level))
     }

@@ -1,4 +1,5 @@
 //! Reads records from standard input and prints the sheet, or `0 `, the number of the refusal and a line feed.
+//! The exit status is 0, of a refusal too; 1 if reading or writing fails.
 #![tactic(auto)]
 
 use sheet::key::key_sheet;

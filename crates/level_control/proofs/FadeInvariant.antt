@@ -293,11 +293,11 @@ module _ (c t T : ℕ) (pos : 1 ≤ T) where
     unfolding command_tests_of run woken
     wake_is s at on z = event_runs s (event at on kind.Wake) z refl
 
-    is_open : (s : LevelControlState) (at : Micros) (on : Bool) (a : DeviceAnswer) → number_of s (event at on (kind.Answer a)) ≡ 0 → task_open s.task ≡ true
+    pub is_open : (s : LevelControlState) (at : Micros) (on : Bool) (a : DeviceAnswer) → number_of s (event at on (kind.Answer a)) ≡ 0 → task_open s.task ≡ true
     unfolding number_of turn_tests
     is_open s at on a z = not-false (task_open s.task) (turn_passes _ _ z).opened
 
-    is_due : (s : LevelControlState) (at : Micros) (on : Bool) → number_of s (event at on kind.Wake) ≡ 0 → task_due s.task at ≡ true
+    pub is_due : (s : LevelControlState) (at : Micros) (on : Bool) → number_of s (event at on kind.Wake) ≡ 0 → task_due s.task at ≡ true
     unfolding number_of turn_tests
     is_due s at on z = not-false (task_due s.task at) (turn_passes _ _ z).due
 

@@ -6,4 +6,5 @@ pub mod SeenLaws
 pub mod EventLaws
 pub mod FadeInvariant
 pub mod StartLaws
+pub mod ReachedLaws
 pub mod EveryFade

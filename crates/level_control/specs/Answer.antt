@@ -1,5 +1,5 @@
 -- Events and answers: what an event gives, and how the code's array holds it.
-use Rattle.std.specs.Prelude.{ℕ, min, Option, Result, Ok, Err, List, [], ◌∷◌, ◌++◌, eqb, length, take, replicate, find}
+use Rattle.std.specs.Prelude.{ℕ, min, Option, Some, None, Result, Ok, Err, List, [], ◌∷◌, ◌++◌, eqb, length, take, replicate, find}
 use Rattle.transitions.specs.Causes.{refusal_number}
 use Rattle.transitions.specs.Events.{action}
 use Rattle.transitions.specs.declared.actions.Action.{Action}
@@ -27,6 +27,16 @@ refused s n = record { number = n; state = s; actions = [] }
 abbrev pub handled : {A : Type 0} → Result A Refusal → LevelControlState → List Action → Outcome
 handled (Ok nothing) s l = done s l
 handled (Err cause) s l = record { number = refusal_number cause; state = s; actions = l }
+
+-- its number: 0 where the event is accepted
+abbrev pub handled_number : {A : Type 0} → Result A Refusal → ℕ
+handled_number (Ok nothing) = 0
+handled_number (Err cause) = refusal_number cause
+
+-- the number that an answer's refusal stands for
+abbrev pub number_shown : Option Refusal → ℕ
+number_shown None = 0
+number_shown (Some cause) = refusal_number cause
 
 -- the same after actions that stand before
 abbrev pub after : List Action → Outcome → Outcome

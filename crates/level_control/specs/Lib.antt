@@ -13,4 +13,5 @@ pub mod Course
 pub mod Path
 pub mod Starts
 pub mod Run
+pub mod Reached
 pub mod EveryFade

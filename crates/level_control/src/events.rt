@@ -1,9 +1,9 @@
 //! One event of any kind.
 //! Derived from level_control.rs of project-chip/rs-matter 43f61585a4 (see NOTICE), and changed.
 ghost use Rattle.std.specs.Prelude.{◌≡◌, []};
-ghost use Rattle.level_control.specs.Answer.{done, handled, packed};
+ghost use Rattle.level_control.specs.Answer.{done, handled, handled_number, number_shown, packed};
 ghost use Rattle.level_control.specs.Course.{follow};
-ghost use Rattle.level_control.specs.Events.{answered_to, event_of};
+ghost use Rattle.level_control.specs.Events.{answered_to, event_of, number_of};
 
 use crate::answer::Answer;
 use crate::causes::Course;
@@ -16,9 +16,10 @@ use transitions::types::Moment;
 
 impl LevelControlState {
     /// The state is handed back within the answer: as it was, where the event is refused.
-    #[tactic(auto, using(crate::proofs::ActionLaws::refusal_found), unfolding(crate::specs::Answer::packed))]
+    #[tactic(auto, using(crate::proofs::ActionLaws::refusal_found), unfolding(crate::specs::Answer::packed, crate::specs::Answer::answer_of))]
     pub fn event(mut self, event: Event) -> Answer
-        ensures { result ≡ packed (event_of self event) }
+        ensures value { result ≡ packed (event_of self event) }
+        ensures number { number_shown result.refusal ≡ number_of self event }
     {
         let mut actions = Actions::new();
         let refusal = self.handle(event, &mut actions).err();
@@ -29,7 +30,8 @@ impl LevelControlState {
     /// the lent list; a refused event has none.
     #[tactic(auto, using(crate::proofs::ActionLaws::refusal_not_0), unfolding(crate::specs::Events::event_of))]
     pub fn handle(&mut self, event: Event, actions: &mut Actions) -> Result<(), Refusal>
-        ensures { handled result self.new actions.new ≡ event_of self.old event }
+        ensures value { handled result self.new actions.new ≡ event_of self.old event }
+        ensures number { handled_number result ≡ number_of self.old event }
     {
         actions.clear();
         let course = self.judge(event)?;

@@ -15,3 +15,4 @@ mod rest;
 pub mod state;
 mod targets;
 mod tasks;
+pub mod theorems;

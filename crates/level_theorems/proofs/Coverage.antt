@@ -46,11 +46,11 @@ use Rattle.transitions.specs.declared.events.Command.TheVariants as command
 
 -- What is named when the options let an event pass.
 
-when_none : (b : Bool) (x : Start) → when b x ≡ NoFade → b ≡ true → x ≡ NoFade
+pub when_none : (b : Bool) (x : Start) → when b x ≡ NoFade → b ≡ true → x ≡ NoFade
 when_none true x e p = e
 when_none false x e p = absurd (false≢true p)
 
-passed : (level : ℕ) (x : Bool) → (consults_options level && not x) ≡ false → (leb 255 level || x) ≡ true
+pub passed : (level : ℕ) (x : Bool) → (consults_options level && not x) ≡ false → (leb 255 level || x) ≡ true
 passed level x e = go (leb 255 level) refl x e
   where
     go : (b : Bool) → leb 255 level ≡ b → (x : Bool) → (consults_options level && not x) ≡ false → (leb 255 level || x) ≡ true

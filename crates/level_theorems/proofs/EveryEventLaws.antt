@@ -1,10 +1,10 @@
 -- Every event, proved. Assumes nothing.
-use Prim.Native.Nat.{ℕ, ◌≤◌}
-use Rattle.std.specs.Prelude.{Option}
-use lib.ListN.{length, take}
-use mathlib.Core.Bool.{Bool, true, false, cond, true≢false}
+use Prim.Native.Nat.{ℕ, ◌≤◌, min}
+use Rattle.std.specs.Prelude.{Option, All}
+use lib.ListN.{length, take, drop, replicate, length-append}
+use mathlib.Core.Bool.{Bool, true, false, cond, true≢false, false≢true}
 use mathlib.Core.Path.{◌≡◌, refl, sym, ap, subst, ◌∙◌}
-use mathlib.Core.Logic.{◌↔◌, ◌⊎◌}
+use mathlib.Core.Logic.{◌↔◌, ◌⊎◌, inl, inr}
 use mathlib.Core.List.{List, [], ◌∷◌, ◌++◌}
 use native.Mathlib.Omega.{arith}
 use borrow.Author.Tests.{eqb-true, eqb-false, ltb-false}
@@ -17,20 +17,25 @@ use Rattle.transitions.specs.Search.{NoneOf, First}
 use Rattle.transitions.specs.declared.actions.Action.{Action}
 use Rattle.transitions.specs.declared.actions.ActionKind.TheVariants.{W, X}
 use Rattle.transitions.specs.declared.causes.Refusal.{Refusal}
+use Rattle.transitions.specs.declared.events.DeviceAnswer.{DeviceAnswer}
 use Rattle.transitions.specs.declared.events.Event.{Event}
 use Rattle.transitions.specs.declared.events.EventKind.{EventKind}
 use Rattle.transitions.specs.declared.events.EventKind.TheVariants as kind
 use Rattle.transitions.specs.declared.tasks.Phase.TheVariants.{Waiting}
 use Rattle.transitions.proofs.RuleLaws.{rule_laws}
-use Rattle.level_control.specs.Answer.{Outcome, done, refused, packed, answer_of, refusal_of}
+use Rattle.level_control.specs.Answer.{Outcome, done, refused, packed, answer_of, refusal_of, number_shown}
 use Rattle.level_control.specs.Causes.{time_refused, turn_tests, command_tests_of}
 use Rattle.level_control.specs.Events.{run, number_of, event_of}
 use Rattle.level_control.specs.Rest.{reset_all}
 use Rattle.level_control.specs.State.{new_state, put_back, accept}
 use Rattle.level_theorems.specs.Orders.{kinds_of, OneOf, orders}
 use Rattle.level_theorems.specs.EveryEvent as claim
-use Rattle.level_theorems.specs.EveryEvent.{LevelFrom, AttributesFrom, unchanged, InPhase, WaitAfter, EveryEvent, tests_of, number_shown}
+use Rattle.level_theorems.specs.EveryEvent.{LevelFrom, AttributesFrom, unchanged, InPhase, WaitAfter, EveryEvent, tests_of}
 use Rattle.level_control.specs.declared.state.LevelControlState.{LevelControlState}
+use Rattle.std.proofs.lemmas.List.{length-take-le}
+use Rattle.std.proofs.lemmas.List.Elements.{All-drop, All-replicate}
+use lib.Seq.{drop-append_seam}
+use Rattle.level_control.proofs.ActionLaws.{array_filled}
 use Rattle.level_control.proofs.AnswerLaws.{unpacked}
 use Rattle.level_control.proofs.EventLaws.{stopped_in, event_refused, event_stopped, event_runs, event_number, turn_passes}
 use Rattle.event_theorems.specs.Brings.{brings}
@@ -45,7 +50,7 @@ use Rattle.level_theorems.proofs.WaitLaws.{waits_in, Waited, no_wait, waits, giv
 use Rattle.transitions.specs.declared.events.Command.TheVariants as command
 
 -- an event is refused, or stopped by the options, or gives what the pages of event_theorems say
-three_ways : (s : LevelControlState) (e : Event) (Q : Outcome → Type 0)
+pub three_ways : (s : LevelControlState) (e : Event) (Q : Outcome → Type 0)
     → ((number_of s e ≡ 0 → ⊥) → Q (refused s (number_of s e)))
     → (number_of s e ≡ 0 → Q (done (accept s e.moment.at) []))
     → Q (gives s (brings s e.kind) e.moment.at e.moment.on_off)
@@ -189,17 +194,127 @@ unfolding packed answer_of number_of
 refusal_shows_number s e =
     subst Shows (sym (event_number s e)) (cause_shows (turn_tests s e.moment.at e.kind) (command_tests_of s e.moment.on_off e.kind))
 
+-- The array: what is not filled is free.
+
+free_slots_of : (o : Outcome) → length o.actions ≤ 7
+    → (length (packed o).actions ≡ 7) × All (λ a. a ≡ action X 0) (drop (packed o).count (packed o).actions)
+unfolding packed answer_of
+free_slots_of o h =
+    let l = o.actions in
+    let free : List Action = replicate 7 (action X 0) in
+    let filled = array_filled l (action X 0) h in
+    let count : min 7 (length l) ≡ length l = omega arith in
+    let others : All (λ a. a ≡ action X 0) (drop (length l) free) =
+    All-drop (λ a. a ≡ action X 0) (length l) free (All-replicate (λ a. a ≡ action X 0) 7 (action X 0) refl) in
+    let seam : drop (length l) (l ++ drop (length l) free) ≡ drop (length l) free = drop-append_seam l (drop (length l) free) in
+    (length-take-le 7 (l ++ free) (omega (arith, length-append l free)), rw (count, filled, seam) others)
+
+-- Which events the causes 6 to 9 are of.
+
+-- the causes from 10 on, and none
+abbrev Later : ℕ → Type 0
+Later n = (n ≡ 0) ⊎ (10 ≤ n)
+
+row_later : (b : Bool) (n others : ℕ) → Later n → Later others → Later (cond b n others)
+row_later true n others p q = p
+row_later false n others p q = q
+
+not_later : (x n : ℕ) → Later x → 1 ≤ n → n ≤ 9 → x ≡ n → ⊥
+not_later x n (inl z) low high e = omega arith
+not_later x n (inr h) low high e = omega arith
+
+-- a number from 6 to 9 is that of a test that holds
+abbrev ByTurn : TurnTests → ℕ → Type 0
+ByTurn t n =
+    (n ≡ 6 → t.answer_open ≡ true) × (n ≡ 7 → t.no_answer_open ≡ true) × (n ≡ 8 → t.wake_refused ≡ true) × (n ≡ 9 → t.start_up_late ≡ true)
+
+turn_by : (a b c d f : Bool) (x : ℕ) → Later x
+    → ByTurn (record { time_refused = a; answer_open = b; no_answer_open = c; wake_refused = d; start_up_late = f })
+    (cond a 5 (cond b 6 (cond c 7 (cond d 8 (cond f 9 x)))))
+turn_by true b c d f x h = (λ e. absurd (omega arith), λ e. absurd (omega arith), λ e. absurd (omega arith), λ e. absurd (omega arith))
+turn_by false true c d f x h = (λ e. refl, λ e. absurd (omega arith), λ e. absurd (omega arith), λ e. absurd (omega arith))
+turn_by false false true d f x h = (λ e. absurd (omega arith), λ e. refl, λ e. absurd (omega arith), λ e. absurd (omega arith))
+turn_by false false false true f x h = (λ e. absurd (omega arith), λ e. absurd (omega arith), λ e. refl, λ e. absurd (omega arith))
+turn_by false false false false true x h = (λ e. absurd (omega arith), λ e. absurd (omega arith), λ e. absurd (omega arith), λ e. refl)
+turn_by false false false false false x h = (
+  λ e. absurd (not_later x 6 h (omega arith) (omega arith) e),
+  λ e. absurd (not_later x 7 h (omega arith) (omega arith) e),
+  λ e. absurd (not_later x 8 h (omega arith) (omega arith) e),
+  λ e. absurd (not_later x 9 h (omega arith) (omega arith) e),
+)
+
+turn_number : (s : LevelControlState) (e : Event) → ByTurn (turn_tests s e.moment.at e.kind) (event_of s e).number
+unfolding number_of first_cause
+turn_number s e =
+    let t = turn_tests s e.moment.at e.kind in
+    let c = command_tests_of s e.moment.on_off e.kind in
+    subst (ByTurn t) (sym (event_number s e))
+    (turn_by t.time_refused t.answer_open t.no_answer_open t.wake_refused t.start_up_late _
+    (row_later c.invalid_command 10 _ (inr (omega arith))
+    (row_later c.stopped_by_options 0 _ (inl refl)
+    (row_later c.invalid_in_state 11 _ (inr (omega arith))
+    (row_later c.product_too_large 12 _ (inr (omega arith))
+    (row_later c.level_outside 13 _ (inr (omega arith))
+    (row_later c.rate_0 14 0 (inr (omega arith)) (inl refl))))))))
+
+module _ (s : LevelControlState) (at : Micros) where
+  open_no_answer : (a : DeviceAnswer) → (turn_tests s at (kind.Answer a)).answer_open ≡ true → ⊥
+  unfolding turn_tests
+  open_no_answer a h = false≢true h
+
+  none_open_answer : (k : EventKind) → (turn_tests s at k).no_answer_open ≡ true → (a : DeviceAnswer) × (k ≡ kind.Answer a)
+  unfolding turn_tests
+  none_open_answer kind.StartUp h = absurd (false≢true h)
+  none_open_answer (kind.Answer a) h = (a, refl)
+  none_open_answer kind.Wake h = absurd (false≢true h)
+  none_open_answer (kind.Command c) h = absurd (false≢true h)
+
+  refused_wake : (k : EventKind) → (turn_tests s at k).wake_refused ≡ true → k ≡ kind.Wake
+  unfolding turn_tests
+  refused_wake kind.StartUp h = absurd (false≢true h)
+  refused_wake (kind.Answer a) h = absurd (false≢true h)
+  refused_wake kind.Wake h = refl
+  refused_wake (kind.Command c) h = absurd (false≢true h)
+
+  late_start_up : (k : EventKind) → (turn_tests s at k).start_up_late ≡ true → k ≡ kind.StartUp
+  unfolding turn_tests
+  late_start_up kind.StartUp h = refl
+  late_start_up (kind.Answer a) h = absurd (false≢true h)
+  late_start_up kind.Wake h = absurd (false≢true h)
+  late_start_up (kind.Command c) h = absurd (false≢true h)
+
+never_6 : (s : LevelControlState) (e : Event) (a : DeviceAnswer) → e.kind ≡ kind.Answer a → (event_of s e).number ≡ 6 → ⊥
+never_6 s e a k n =
+    open_no_answer s e.moment.at a (subst (λ (k : EventKind). (turn_tests s e.moment.at k).answer_open ≡ true) k ((turn_number s e).0 n))
+
 pub every_event : EveryEvent
 unfolding new_state put_back
 every_event = record {
+  first_state = λ x. record {
+    settings = refl;
+    attributes = refl;
+    level = refl;
+    previous_level = refl;
+    remaining_time = refl;
+    last_report = refl;
+    rest = refl;
+    last_accepted = refl;
+    nothing_accepted = refl;
+  };
   refused_keeps = refused_keeps;
   first_cause_is_first = first_cause_is_first;
+  never_6_of_answer = never_6;
+  only_answer_7 = λ s e n. none_open_answer s e.moment.at e.kind ((turn_number s e).1 n);
+  only_wake_8 = λ s e n. refused_wake s e.moment.at e.kind ((turn_number s e).2 n);
+  only_start_up_9 = λ s e n. late_start_up s e.moment.at e.kind ((turn_number s e).3 n);
   stopped_accepted = λ s e z q.
       let same = event_stopped s e z q in
       (ap (λ (o : Outcome). o.number) same, ap (λ (o : Outcome). o.actions) same, ap (λ (o : Outcome). o.state) same);
   at_most_seven = at_most_seven;
   slots_are_actions = λ s e. unpacked (event_of s e) (at_most_seven s e);
   slots_hold = slots_hold;
+  seven_slots = λ s e. (free_slots_of (event_of s e) (at_most_seven s e)).0;
+  free_slots = λ s e. (free_slots_of (event_of s e) (at_most_seven s e)).1;
   refusal_shows_number = refusal_shows_number;
   action_order = action_order;
   reset = λ s e k z.

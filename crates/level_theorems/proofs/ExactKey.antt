@@ -29,7 +29,8 @@ use Rattle.level_control.specs.Events.{woken_in, woken, run, number_of}
 use Rattle.level_control.specs.Causes.{command_tests_of}
 use Rattle.level_control.specs.Run.{Run, Pending, accepted, is_onward, only_onward, started, next, play}
 use Rattle.level_control.specs.Starts.{distance}
-use Rattle.level_theorems.specs.FadeTheorems.{given_in, ExactKey}
+use Rattle.level_theorems.specs.FadeTheorems.{ExactKey}
+use Rattle.level_theorems.specs.Runs.{given_in}
 use Rattle.level_control.specs.declared.state.LevelControlState.{LevelControlState}
 use Rattle.level_control.proofs.TimeLaws.{shown_of}
 use Rattle.level_control.proofs.EventLaws.{event_number, event_runs, run_zero}

@@ -14,6 +14,8 @@ pub mod ExactKey
 pub mod Uninterrupted
 pub mod Progress
 pub mod ReactionsCovered
+pub mod RunSteps
+pub mod RunsHold
 pub mod TaskAgrees
 pub mod PlayedInstances
 pub mod WaitsEnd

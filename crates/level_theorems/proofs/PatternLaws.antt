@@ -36,12 +36,6 @@ leaves_append q m (leaves g) h = leaves (leaves_append q m g h)
 pub both : {p q : List ActionKind} (l r : List Action) → Fits p l → Fits q r → Fits (p ++ q) (l ++ r)
 both {p} {q} l r g h = record { kinds = rw kinds_append (leaves_append q (kinds_of r) g.kinds h.kinds) }
 
--- the end of a pattern may be left out
-end_left_out : {p k : List ActionKind} (q : List ActionKind) → LeavesOut p k → LeavesOut (p ++ q) k
-end_left_out q end = none q
-end_left_out q (takes g) = takes (end_left_out q g)
-end_left_out q (leaves g) = leaves (end_left_out q g)
-
 pub one : (k : ActionKind) (v : ℕ) → Fits (k ∷ []) (act k v)
 one k v = record { kinds = takes end }
 

@@ -26,7 +26,7 @@ use Rattle.level_control.specs.Events.{run, number_of, event_of}
 use Rattle.level_control.specs.Run.{accepted, all_refused, state_after}
 use Rattle.level_control.specs.Starts.{Fades, start_of}
 use Rattle.level_control.specs.EveryFade.{Starts, directly, after_on}
-use Rattle.level_theorems.specs.FadeTheorems.{given_in}
+use Rattle.level_theorems.specs.Runs.{given_in}
 use Rattle.level_control.specs.Reports.{Told}
 use Rattle.level_control.specs.declared.state.LevelControlState.{LevelControlState}
 use Rattle.level_control.proofs.EventLaws.{event_stopped, event_runs, stopped_in}

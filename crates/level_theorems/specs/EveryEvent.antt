@@ -1,8 +1,8 @@
 -- Every event: what it gives, in every state. No field has a hypothesis that it does not state.
-use Rattle.std.specs.Prelude.{ℕ, ◌≤◌, Bool, true, ◌≡◌, ◌↔◌, ◌⊎◌, List, [], ◌∷◌, ◌++◌, length, take, Option, Some, None}
+use Rattle.std.specs.Prelude.{ℕ, ◌≤◌, Bool, true, false, ◌≡◌, ◌↔◌, ◌⊎◌, List, [], ◌∷◌, ◌++◌, All, length, take, drop, Option, Some, None}
 use Rattle.units.specs.Units.{micros}
 use Rattle.units.specs.declared.Micros.{Micros}
-use Rattle.transitions.specs.Causes.{Row, rows, event_tests, refusal_number}
+use Rattle.transitions.specs.Causes.{Row, rows, event_tests}
 use Rattle.transitions.specs.Events.{action, act}
 use Rattle.transitions.specs.Tasks.{fade_last}
 use Rattle.transitions.specs.Types.{is_missing}
@@ -11,6 +11,7 @@ use Rattle.transitions.specs.Causes.{Tests}
 use Rattle.transitions.specs.declared.actions.Action.{Action}
 use Rattle.transitions.specs.declared.actions.ActionKind.TheVariants.{W, X}
 use Rattle.transitions.specs.declared.causes.Refusal.{Refusal}
+use Rattle.transitions.specs.declared.events.DeviceAnswer.{DeviceAnswer}
 use Rattle.transitions.specs.declared.events.DeviceAnswer.TheVariants as device
 use Rattle.transitions.specs.declared.events.Event.{Event}
 use Rattle.transitions.specs.declared.events.EventKind.{EventKind}
@@ -21,9 +22,10 @@ use Rattle.transitions.specs.declared.tasks.Phase.TheVariants.{Asked, Waiting}
 use Rattle.transitions.specs.declared.tasks.Task.{Task}
 use Rattle.transitions.specs.declared.tasks.Task.TheVariants as task
 use Rattle.transitions.specs.declared.settings.Attributes.{Attributes}
+use Rattle.transitions.specs.declared.settings.Settings.{Settings}
 use Rattle.transitions.specs.Types.{Level}
 use Rattle.transitions.specs.Types.{Rate}
-use Rattle.level_control.specs.Answer.{packed, answer_of}
+use Rattle.level_control.specs.Answer.{packed, answer_of, number_shown}
 use Rattle.level_control.specs.Causes.{turn_tests, command_tests_of}
 use Rattle.level_control.specs.Events.{number_of, event_of}
 use Rattle.level_theorems.specs.Orders.{kinds_of, OneOf, orders}
@@ -38,11 +40,6 @@ tests_of s e = event_tests (turn_tests s e.moment.at e.kind) (command_tests_of s
 -- the options stop the event
 abbrev pub stopped_by_options : LevelControlState → Event → Bool
 stopped_by_options s e = (command_tests_of s e.moment.on_off e.kind).stopped_by_options
-
--- the number that an answer's refusal stands for
-abbrev pub number_shown : Option Refusal → ℕ
-number_shown None = 0
-number_shown (Some cause) = refusal_number cause
 
 -- where the level that is stored after an event of a kind comes from
 pub data LevelFrom (s : LevelControlState) (k : EventKind) : Level → Type 0 where
@@ -80,6 +77,20 @@ pub data AttributesFrom (s : LevelControlState) (k : EventKind) : Attributes →
   -- a reset puts them back to the configured
   by_factory_reset : k ≡ (kind.Command command.FactoryReset) → AttributesFrom s k s.settings.attributes
 
+-- the state that settings give
+pub record FirstState (x : Settings) : Type 0 where
+  pub settings : (new_state x).settings ≡ x
+  pub attributes : (new_state x).attributes ≡ x.attributes
+  -- the level as configured, whatever it is: 0, 255, outside MIN..MAX or missing
+  pub level : (new_state x).current_level ≡ x.current_level
+  pub previous_level : (new_state x).previous_current_level ≡ None
+  pub remaining_time : (new_state x).remaining_time.0 ≡ 0
+  pub last_report : (new_state x).last_current_level_notification.0 ≡ 0
+  -- at rest, with nothing accepted
+  pub rest : (new_state x).task ≡ task.Rest
+  pub last_accepted : (new_state x).last_accepted.0 ≡ 0
+  pub nothing_accepted : (new_state x).started ≡ false
+
 -- a fade or a move that is in a phase
 abbrev pub InPhase : Task → Phase → Type 0
 InPhase task.Rest p = ⊥
@@ -101,6 +112,8 @@ pub record WaitAfter (s : LevelControlState) (e : Event) (u : ℕ) : Type 0 wher
   pub waits : InPhase (event_of s e).state.task (Waiting (micros u))
 
 pub record EveryEvent : Type 0 where
+  -- Before the first event the state is the one that settings give.
+  pub first_state : (x : Settings) → FirstState x
   -- An event whose number is not 0 gives back the state it was given, and no action.
   pub refused_keeps : (s : LevelControlState) (e : Event) → ((event_of s e).number ≡ 0 → ⊥)
       → ((event_of s e).state ≡ s) × ((event_of s e).actions ≡ [])
@@ -110,6 +123,11 @@ pub record EveryEvent : Type 0 where
       → ((event_of s e).number ≡ n)
       ↔ (((r : Row) × First (λ r. r.applies) (rows (tests_of s e)) r × (r.number ≡ n))
       ⊎ (NoneOf (λ r. r.applies) (rows (tests_of s e)) × (n ≡ 0)))
+  -- 6 is never the number of an answer; 7 is that of an answer alone, 8 of a wake alone, and 9 of start-up alone.
+  pub never_6_of_answer : (s : LevelControlState) (e : Event) (a : DeviceAnswer) → e.kind ≡ kind.Answer a → (event_of s e).number ≡ 6 → ⊥
+  pub only_answer_7 : (s : LevelControlState) (e : Event) → (event_of s e).number ≡ 7 → (a : DeviceAnswer) × (e.kind ≡ kind.Answer a)
+  pub only_wake_8 : (s : LevelControlState) (e : Event) → (event_of s e).number ≡ 8 → e.kind ≡ kind.Wake
+  pub only_start_up_9 : (s : LevelControlState) (e : Event) → (event_of s e).number ≡ 9 → e.kind ≡ kind.StartUp
   -- An event that the options stop is accepted with number 0 and no action, and leaves all as it was but the last accepted time, and that an event was
   -- accepted.
   pub stopped_accepted : (s : LevelControlState) (e : Event) → number_of s e ≡ 0 → stopped_by_options s e ≡ true
@@ -134,6 +152,10 @@ pub record EveryEvent : Type 0 where
   -- So it is of every list of at most seven, whatever the refusal and the state.
   pub slots_hold : (refusal : Option Refusal) (s : LevelControlState) (l : List Action) → length l ≤ 7
       → take (answer_of refusal s l).count (answer_of refusal s l).actions ≡ l
+  -- The array has seven slots, and the free ones, from `count` on, hold X with value 0.
+  pub seven_slots : (s : LevelControlState) (e : Event) → length (packed (event_of s e)).actions ≡ 7
+  pub free_slots : (s : LevelControlState) (e : Event)
+      → All (λ a. a ≡ action X 0) (drop (packed (event_of s e)).count (packed (event_of s e)).actions)
   -- The answer's refusal stands for the event's number: none where it is 0.
   pub refusal_shows_number : (s : LevelControlState) (e : Event) → number_shown (packed (event_of s e)).refusal ≡ (event_of s e).number
   -- The kinds of its actions stand in the order of one of the patterns for its kind and for the task it finds, entries of which may be left out.

@@ -1,11 +1,13 @@
 -- What goes with Every fade: the path is what its name says, no fade is left out, every fade can come to its end, the remaining time is exact.
-use Rattle.std.specs.Prelude.{ℕ, ◌+◌, ◌-◌, ◌*◌, ◌/◌, ◌≤◌, ◌<◌, Bool, true, ◌≡◌, List, length, get_or}
+use Rattle.std.specs.Prelude.{ℕ, ◌+◌, ◌-◌, ◌*◌, ◌/◌, ◌≤◌, ◌<◌, Bool, true, ◌≡◌, ◌↔◌, List, length, get_or}
 use Rattle.units.specs.declared.Micros.{Micros}
 use Rattle.transitions.specs.Events.{event}
 use Rattle.transitions.specs.Tasks.{task_open}
 use Rattle.transitions.specs.declared.events.DeviceAnswer.{DeviceAnswer}
 use Rattle.transitions.specs.declared.events.Event.{Event}
 use Rattle.transitions.specs.declared.events.EventKind.TheVariants as kind
+use Rattle.transitions.specs.declared.settings.Settings.{Settings}
+use Rattle.transitions.specs.declared.tasks.Fade.{Fade}
 use Rattle.transitions.specs.declared.tasks.OnReaction.{OnReaction}
 use Rattle.transitions.specs.declared.tasks.Phase.TheVariants.{Waiting}
 use Rattle.transitions.specs.declared.tasks.Task.TheVariants as task
@@ -13,13 +15,16 @@ use Rattle.level_control.specs.Answer.{Outcome}
 use Rattle.level_control.specs.Causes.{latest}
 use Rattle.level_control.specs.Events.{event_of}
 use Rattle.level_control.specs.Path.{path}
-use Rattle.level_control.specs.Run.{Run, accepted, started, play, only_onward}
+use Rattle.level_control.specs.Reached.{ReachedFrom}
+use Rattle.level_control.specs.Run.{Run, accepted, started, play, only_onward, all_refused}
 use Rattle.level_control.specs.Starts.{distance}
-use Rattle.level_control.specs.EveryFade.{Starts, directly, after_on}
+use Rattle.level_control.specs.State.{new_state}
+use Rattle.level_control.specs.EveryFade.{Starts, Shown}
 use Rattle.level_theorems.specs.EveryEvent.{InPhase}
 use Rattle.level_theorems.specs.Covered.{Covered}
+use Rattle.level_theorems.specs.Runs.{given_in, leaves_task, none_leaves, FadeRuns}
 use Rattle.level_theorems.specs.Replies.{Reply, answers_from, in_time, delays, Ends}
-use Rattle.level_theorems.specs.Uninterrupted.{uninterrupted, open_of}
+use Rattle.level_theorems.specs.Uninterrupted.{uninterrupted, up_to_end, after_end, all_levels, open_of}
 use Rattle.level_control.specs.declared.state.LevelControlState.{LevelControlState}
 use Rattle.transitions.specs.declared.events.Command.TheVariants as command
 
@@ -48,6 +53,23 @@ abbrev pub ReactionsCovered : Type 0
 ReactionsCovered =
     (s : LevelControlState) (e : Event) (r : OnReaction) → accepted s e ≡ true → (event_of s e).state.task ≡ task.OnReaction r
     → (e.kind ≡ kind.Command (command.OnOffChanged true)) × (r.before ≡ s.current_level)
+
+-- In every reached state in which a fade runs, one of the five starts stands in the list of events that led to it, with this fade's c, t and T; and each event
+-- accepted since is an answer with a level to it, a wake of it, or one that leaves it as it was: a setter, a command that the options stop, or one that asks for
+-- nothing.
+abbrev pub NoFadeLeftOut : Type 0
+NoFadeLeftOut = (x : Settings) (s : LevelControlState) (w : ReachedFrom x s) (f : Fade) → s.task ≡ task.Fade f → FadeRuns (new_state x) w.events f
+
+-- What is said to leave a task as it was does, whatever the task.
+abbrev pub LeavesTask : Type 0
+LeavesTask = (s : LevelControlState) (e : Event) → accepted s e ≡ true → leaves_task s e ≡ true → (event_of s e).state.task ≡ s.task
+
+-- Where there is none of the last, the list since the start is one that Every fade speaks of.
+abbrev pub OnwardSince : Type 0
+OnwardSince =
+    (first : LevelControlState) (es : List Event) (f : Fade) (w : FadeRuns first es f) → none_leaves w.outcome.state w.since ≡ true
+    → (only_onward (started w.outcome) w.since ≡ true)
+    × (1 ≤ w.T → w.T ≤ 65535 → Shown w.c w.t w.T (play (started w.outcome) w.since))
 
 -- Progress.
 
@@ -82,11 +104,6 @@ WaitsEnd =
 
 -- The exact key.
 
--- the state in which the move to level, step, off, scene or on was given. After on the fade starts in the answer; neither on nor that answer writes the remaining time
-abbrev pub given_in : {o : Outcome} {c t T : ℕ} → Starts o c t T → LevelControlState
-given_in (directly s e c t T ok named) = s
-given_in (after_on s e a es v c t T ok on refusals answered level named) = s
-
 pub record Key (s : LevelControlState) (c t T : ℕ) (r : Run) : Type 0 where
   pub before : r.answers ≡ 0 → r.state.remaining_time ≡ s.remaining_time
   pub exact : 1 ≤ r.answers → r.answers < distance t c
@@ -114,3 +131,16 @@ TaskAgrees =
 -- A list of events of which only answers with a level and wakes are accepted leaves a fade uninterrupted.
 abbrev pub Uninterrupted : Type 0
 Uninterrupted = (r : Run) (es : List Event) → only_onward r es ≡ true → uninterrupted r es ≡ true
+
+-- And the other way round, up to the fade's end.
+pub record UninterruptedLists : Type 0 where
+  -- Up to the end a list is one of the claim exactly if it leaves the fade uninterrupted and every accepted answer has a level.
+  pub to_end : (r : Run) (es : List Event)
+      → (only_onward r (up_to_end r es) ≡ true) ↔ ((uninterrupted r es ≡ true) × (all_levels r (up_to_end r es) ≡ true))
+  -- After the end of a fade of at least 1 tenth a list of the claim has refused events alone; so the lists of the claim are exactly these.
+  pub whole : (o : Outcome) (c t T : ℕ) (es : List Event)
+      → Starts o c t T → 1 ≤ T → T ≤ 65535
+      → (only_onward (started o) es ≡ true)
+      ↔ ((uninterrupted (started o) es ≡ true)
+      × (all_levels (started o) (up_to_end (started o) es) ≡ true)
+      × (all_refused (play (started o) (up_to_end (started o) es)).state (after_end (started o) es) ≡ true))

@@ -1,6 +1,7 @@
 pub mod Orders
 pub mod EveryEvent
 pub mod Covered
+pub mod Runs
 pub mod Replies
 pub mod Uninterrupted
 pub mod FadeTheorems

@@ -3,9 +3,10 @@
 #![tactic(auto)]
 
 ghost use Rattle.level_theorems.specs.EveryEvent.{EveryEvent};
-ghost use Rattle.level_theorems.specs.FadeTheorems.{AnswersAccepted, ComesToRest, EveryFadeCovered, ExactKey, PathIs, ReactionsCovered, TaskAgrees, Uninterrupted, WaitsEnd, WakesAccepted};
+ghost use Rattle.level_theorems.specs.FadeTheorems.{AnswersAccepted, ComesToRest, EveryFadeCovered, ExactKey, LeavesTask, NoFadeLeftOut, OnwardSince, PathIs, ReactionsCovered, TaskAgrees, Uninterrupted, UninterruptedLists, WaitsEnd, WakesAccepted};
 ghost use Rattle.level_theorems.specs.Instances.{Instances};
 ghost use Rattle.level_theorems.specs.Keys.{Keys};
+ghost use Rattle.level_theorems.specs.Runs.{InReached};
 ghost use Rattle.level_control.specs.EveryFade.{EveryFade};
 
 /// Every event, in every state. Refused ones change nothing, the number is that of the first cause, the actions are at most
@@ -36,6 +37,29 @@ pub fn every_fade_is_covered()
 #[tactic(auto, using(crate::proofs::ReactionsCovered::reactions_covered))]
 pub fn reactions_are_covered()
     ensures { ReactionsCovered }
+{}
+
+/// In every reached state the settings are those that it is reached from; and until an event is accepted it is the state that
+/// they give.
+#[tactic(auto, using(crate::proofs::RunsHold::in_reached))]
+pub fn reached_states_keep()
+    ensures { InReached }
+{}
+
+/// No fade is left out of a run: in every reached state in which a fade runs, one of the five starts stands in the list of events
+/// that led to it, and what was accepted since was of the fade, or left it as it was.
+pub fn no_fade_is_left_out()
+    ensures { NoFadeLeftOut }
+{}
+
+/// What is said there to leave a task as it was does, whatever the task.
+pub fn tasks_are_left()
+    ensures { LeavesTask }
+{}
+
+/// And where nothing of the last kind was accepted, the events since are of those that Every fade speaks of.
+pub fn runs_are_onward()
+    ensures { OnwardSince }
 {}
 
 /// The remaining time of such a fade to the tenth, for every k; before the first answer it is what was shown before the fade.
@@ -80,6 +104,12 @@ pub fn onward_is_uninterrupted()
     ensures { Uninterrupted }
 {}
 
+/// And the other way round: up to a fade's end the uninterrupted lists whose accepted answers have levels are lists of the claim.
+#[tactic(auto, using(crate::proofs::Uninterrupted::uninterrupted_lists))]
+pub fn uninterrupted_is_onward()
+    ensures { UninterruptedLists }
+{}
+
 /// The claim is not empty: a play for each of the five starts, with a refused event, a late answer and a device that answers
 /// other levels.
 #[tactic(auto, using(crate::proofs::PlayedInstances::instances))]
@@ -87,7 +117,7 @@ pub fn instances_hold()
     ensures { Instances }
 {}
 
-/// Keys: every question of the table has the key that stands beside it, and the twelve questions stand in it.
+/// Keys: every question of the table has the key that stands beside it; it has the rows of the twelve questions, and no other.
 #[tactic(auto, using(crate::proofs::KeyLaws::keys_hold))]
 pub fn keys_hold()
     ensures { Keys }

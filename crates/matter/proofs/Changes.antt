@@ -1,43 +1,53 @@
--- What is named for a command, and what the document says: a change of CurrentLevel, or none. Assumes nothing.
+-- What becomes of a command, and what the document says: a change of CurrentLevel, or none. Assumes nothing.
 use Rattle.std.specs.Prelude.{Some, None}
 use Prim.Native.Nat.{ℕ, ◌*◌, ◌/◌, ◌≤◌, min, max}
-use mathlib.Core.Bool.{Bool, true, false, cond, true≢false, false≢true}
-use mathlib.Core.Path.{◌≡◌, refl, sym, ap, ◌∙◌}
+use mathlib.Core.Bool.{Bool, true, false, cond, true≢false}
+use mathlib.Core.Path.{◌≡◌, refl, sym, ap, subst, ◌∙◌}
+use mathlib.Core.List.{[]}
 use native.Mathlib.Nat.{mul-div_cancel}
 use native.Mathlib.Omega.{arith}
-use borrow.Author.Tests.{lt-leb, ltb-true, ltb-false, eqb-true}
+use borrow.Author.Tests.{lt-leb, ltb-true, ltb-false, eqb-true, eqb-false, eq-eqb, not-false}
 use lib.Dec.{ltb, eqb}
+use Rattle.units.specs.declared.Micros.{Micros}
+use Rattle.transitions.specs.Actions.{no_reports}
 use Rattle.transitions.specs.Commands.{step_level}
+use Rattle.transitions.specs.Events.{event}
+use Rattle.transitions.specs.Tasks.{begin_fade, task_open, task_due}
+use Rattle.transitions.specs.declared.actions.ActionKind.TheVariants.{L}
+use Rattle.transitions.specs.declared.events.DeviceAnswer.{DeviceAnswer}
 use Rattle.transitions.specs.declared.events.Event.{Event}
 use Rattle.transitions.specs.declared.events.EventKind.{EventKind}
 use Rattle.transitions.specs.declared.events.EventKind.TheVariants as kind
 use Rattle.transitions.specs.declared.events.StepRequest.{StepRequest}
-use Rattle.transitions.specs.declared.tasks.Fade.{Fade}
-use Rattle.transitions.specs.declared.tasks.Task.TheVariants as task
+use Rattle.transitions.specs.declared.tasks.Begin.TheVariants as begin
+use Rattle.transitions.specs.declared.tasks.FadeRequest.{FadeRequest}
 use Rattle.transitions.specs.Types.{Level}
 use Rattle.transitions.specs.declared.types.Mode.{Mode}
 use Rattle.transitions.specs.declared.types.Mode.TheVariants.{Up, Down}
 use Rattle.transitions.specs.Types.{Time}
 use Rattle.transitions.proofs.MatterLaws.{matter_agrees}
-use Rattle.level_control.specs.Events.{event_of}
-use Rattle.level_control.specs.Run.{accepted, is_onward}
+use Rattle.level_control.specs.State.{accept}
+use Rattle.level_control.specs.Answer.{Outcome, done}
+use Rattle.level_control.specs.Causes.{turn_tests}
+use Rattle.level_control.specs.Events.{number_of, event_of}
+use Rattle.level_control.specs.Reports.{coupled_by}
+use Rattle.level_control.specs.Run.{Nothing, Request, Wait}
 use Rattle.level_control.specs.Starts as starts
-use Rattle.level_control.specs.Starts.{NoFade, start_from, when, target, given_or, step_in, start_of}
-use Rattle.level_control.specs.Targets.{stepped_level}
+use Rattle.level_control.specs.Starts.{target, given_or, step_in}
+use Rattle.level_control.specs.Targets.{quiet, go_to_by, go_to, stepped_level}
 use Rattle.level_control.specs.declared.state.LevelControlState.{LevelControlState}
-use Rattle.level_control.proofs.EveryFade.{accepted_zero}
-use Rattle.level_control.proofs.StartLaws.{no_fade, direct_starts, step_is}
-use Rattle.level_theorems.specs.Covered as covered
-use Rattle.level_theorems.specs.Covered.{Covered}
+use Rattle.level_control.proofs.EventLaws.{turn_passes}
+use Rattle.level_control.proofs.SeenLaws.{Silent, silent_append, silent_if, silent_reports, silent_coupled}
+use Rattle.level_control.proofs.StartLaws.{step_is}
 use Rattle.level_theorems.specs.EveryEvent as claim
 use Rattle.level_theorems.specs.EveryEvent.{LevelFrom}
 use Rattle.level_theorems.proofs.EveryEventLaws.{every_event}
-use Rattle.level_theorems.proofs.EveryFadeCovered.{begins, every_fade_covered}
-use Rattle.matter.specs.Matter.{NoEffect, Goes, goes, within, or_else, step_to, reduced}
-use Rattle.matter.specs.Agreement.{Does}
+use Rattle.level_theorems.proofs.EveryFadeCovered.{begins}
+use Rattle.matter.specs.Matter.{NotExecuted, NoEffect, Goes, goes, within, or_else, step_to, reduced}
+use Rattle.matter.specs.Agreement.{Unchanged, AtRest, Does}
 use Rattle.transitions.specs.declared.events.Command.TheVariants as command
 
--- An event that names no fade: the level stays, and no fade starts.
+-- A command leaves the level as it is, in its own event.
 
 abbrev pub is_command : EventKind → Bool
 is_command kind.StartUp = false
@@ -56,23 +66,6 @@ is_command (kind.Command (command.SetDefaultMoveRate rate)) = false
 is_command (kind.Command (command.SetStartUpCurrentLevel level)) = false
 is_command (kind.Command command.FactoryReset) = false
 
-no_onward : (k : EventKind) → is_command k ≡ true → is_onward k ≡ true → ⊥
-no_onward kind.StartUp c o = false≢true o
-no_onward (kind.Command (command.MoveToLevel r)) c o = false≢true o
-no_onward (kind.Command (command.Move r)) c o = false≢true o
-no_onward (kind.Command (command.Step r)) c o = false≢true o
-no_onward (kind.Command (command.Stop r)) c o = false≢true o
-no_onward (kind.Answer a) c o = false≢true c
-no_onward kind.Wake c o = false≢true c
-no_onward (kind.Command (command.OnOffChanged value)) c o = false≢true o
-no_onward (kind.Command (command.Scene r)) c o = false≢true o
-no_onward (kind.Command (command.DeviceUpdate level)) c o = false≢true o
-no_onward (kind.Command command.DeviceStop) c o = false≢true o
-no_onward (kind.Command (command.SetOnLevel level)) c o = false≢true o
-no_onward (kind.Command (command.SetDefaultMoveRate rate)) c o = false≢true o
-no_onward (kind.Command (command.SetStartUpCurrentLevel level)) c o = false≢true o
-no_onward (kind.Command command.FactoryReset) c o = false≢true o
-
 level_stays : (s : LevelControlState) (k : EventKind) (l : Level) → is_command k ≡ true → LevelFrom s k l → l ≡ s.current_level
 level_stays s k _ c claim.kept = refl
 level_stays s k _ c (claim.answered e) = absurd (true≢false (sym c ∙ ap is_command e))
@@ -83,27 +76,76 @@ level_stays s k _ c (claim.restored runs last after none e) = absurd (true≢fal
 pub command_keeps_level : (s : LevelControlState) (e : Event) → is_command e.kind ≡ true → (event_of s e).state.current_level ≡ s.current_level
 command_keeps_level s e c = level_stays s e.kind _ c (every_event.level_comes_from s e)
 
-no_start : (s : LevelControlState) (e : Event) (s' : LevelControlState) → is_command e.kind ≡ true → start_of s e.moment.on_off e.kind ≡ NoFade
-    → Covered s e s' → (f : Fade) → s'.task ≡ task.Fade f → s.task ≡ task.Fade f
-no_start s e s' k n (covered.starts c t T p b) f z = no_fade c t T (sym n ∙ p)
-no_start s e s' k n (covered.starts_on r v c t T p q named b) f z = absurd (true≢false (sym k ∙ ap is_command q))
-no_start s e s' k n (covered.no_fade none h) f z = absurd (h f z)
-no_start s e s' k n (covered.goes_on none f' g p q same o) f z = absurd (no_onward e.kind k o)
-no_start s e s' k n (covered.as_it_was none f' p q) f z = p ∙ (sym q ∙ z)
+-- What is accepted, and what is open.
 
--- what the document says of a change is what is named
-pub does : (s : LevelControlState) (e : Event) (executed : Bool) (c to T : ℕ) → is_command e.kind ≡ true → accepted s e ≡ true
-    → start_of s e.moment.on_off e.kind ≡ when executed (start_from (Some c) to T) → Does s e (cond executed (goes c to T) NoEffect)
-does s e executed c to T k ok named = by executed (eqb c to) refl named
+pub is_open : (s : LevelControlState) (at : Micros) (on : Bool) (a : DeviceAnswer) → number_of s (event at on (kind.Answer a)) ≡ 0 → task_open s.task ≡ true
+unfolding number_of turn_tests
+is_open s at on a z = not-false (task_open s.task) (turn_passes _ _ z).opened
+
+pub is_due : (s : LevelControlState) (at : Micros) (on : Bool) → number_of s (event at on kind.Wake) ≡ 0 → task_due s.task at ≡ true
+unfolding number_of turn_tests
+is_due s at on z = not-false (task_due s.task at) (turn_passes _ _ z).due
+
+pub no_request : Request ≡ Nothing → ⊥
+no_request e = let z : ◌≡◌ {A = ℕ} 0 1 = cc in omega arith
+
+pub no_wait : Wait ≡ Nothing → ⊥
+no_wait e = let z : ◌≡◌ {A = ℕ} 0 1 = cc in omega arith
+
+-- What the document says of a command, and what becomes of it.
+
+pub unchanged : (s : LevelControlState) (o : Outcome) (at : Micros) → o ≡ done (accept s at) [] → Unchanged s o
+unchanged s o at q = rw q (record { level = refl; remaining_time = refl; runs = refl; quiet = refl })
+
+-- a target that is reached already
+reached : (s : LevelControlState) (o : Outcome) (r : FadeRequest) (at : Micros) (on : Bool) (c : ℕ)
+    → o ≡ go_to (quiet (accept s at)) r at on → s.current_level ≡ Some c → c ≡ r.target → AtRest s o
+unfolding go_to begin_fade
+reached s o r at on c q level same =
+    rw q (subst (λ (l : Level). AtRest s (go_to_by (begin_fade l r at) (quiet (accept s at)) r on)) (sym level) (rw (eq-eqb c r.target same) ends))
   where
-    none : start_of s e.moment.on_off e.kind ≡ NoFade → Does s e NoEffect
-    none n = (command_keeps_level s e k, no_start s e (event_of s e).state k n (every_fade_covered s e ok))
+    ended : Outcome
+    ended = go_to_by begin.Reached (quiet (accept s at)) r on
 
-    by : (x b : Bool) → eqb c to ≡ b → start_of s e.moment.on_off e.kind ≡ when x (start_from (Some c) to T) → Does s e (cond x (cond b NoEffect (Goes c to T)) NoEffect)
-    by false b q n = none n
-    by true true q n = none (n ∙ rw q refl)
-    by true false q n =
-        begins (event_of s e) e.moment.at c to T (direct_starts s e.moment.at e.moment.on_off c to T e.kind (accepted_zero s e ok) (n ∙ rw q refl))
+    quietly : Silent ended.actions
+    quietly =
+        silent_append _ _
+        (silent_append _ _ (silent_reports no_reports) (silent_coupled (coupled_by (accept s at) r.target r.with_on_off on)))
+        (silent_if L _ (record { no_ask = refl; no_open = λ p. refl }))
+
+    ends : AtRest s ended
+    ends = record { level = refl; rests = refl; asks_nothing = quietly.no_ask; awaits_nothing = quietly.no_open Nothing }
+
+-- an accepted command that goes from c to a level in T tenths where the options let it pass, and does nothing where they stop it
+pub record MakesFor (s : LevelControlState) (e : Event) (executed : Bool) (c to T : ℕ) : Type 0 where
+  pub level : s.current_level ≡ Some c
+  pub stopped : executed ≡ false → event_of s e ≡ done (accept s e.moment.at) []
+  pub goes : executed ≡ true
+      → (r : FadeRequest) × (event_of s e ≡ go_to (quiet (accept s e.moment.at)) r e.moment.at e.moment.on_off) × (r.target ≡ to) × (r.transition_time.0 ≡ T)
+
+-- is what the document says of such a change
+pub does : (s : LevelControlState) (e : Event) (executed : Bool) (c to T : ℕ) → MakesFor s e executed c to T
+    → Does s e (cond executed (goes c to T) NotExecuted)
+does s e executed c to T m = by executed refl (eqb c to) refl
+  where
+    by : (x : Bool) → executed ≡ x → (b : Bool) → eqb c to ≡ b → Does s e (cond x (cond b NoEffect (Goes c to T)) NotExecuted)
+    by false p b q = unchanged s (event_of s e) e.moment.at (m.stopped p)
+    by true p true q =
+        let (r, outcome, target, time) = m.goes p in
+        reached s (event_of s e) r e.moment.at e.moment.on_off c outcome m.level (eqb-true c to q ∙ sym target)
+    by true p false q =
+        let (r, outcome, target, time) = m.goes p in
+        begins (event_of s e) e.moment.at c to T (record {
+          told = quiet (accept s e.moment.at);
+          request = r;
+          on = e.moment.on_off;
+          outcome = outcome;
+          level = m.level;
+          target = target;
+          time = time;
+          apart = λ z. eqb-false c to q (z ∙ target);
+          last = refl;
+        })
 
 -- Targets and times.
 

@@ -1,19 +1,21 @@
 -- The end of off, start-up, Stop and Move, and the Matter document. Assumes nothing.
 use Rattle.std.specs.Prelude.{Option, Some, None, Result, Ok, Err, ℕ}
 use Prim.Native.Nat.{ℕ, ◌+◌, ◌-◌, ◌≤◌}
-use mathlib.Core.Bool.{Bool, true, false, cond, not, true≢false}
+use mathlib.Core.Bool.{Bool, true, false, cond, not, true≢false, false≢true}
 use mathlib.Core.Path.{◌≡◌, refl, sym, ap, subst, ◌∙◌}
 use mathlib.Core.Logic.{◌⊎◌, inl, inr}
 use mathlib.Core.List.{List, [], ◌∷◌, ◌++◌}
 use native.Mathlib.Omega.{arith}
-use borrow.Author.Tests.{lt-ltb, eqb-true, eqb-false}
+use borrow.Author.Tests.{lt-ltb, eqb-true, eqb-false, ne_eqb}
 use lib.Dec.{eqb}
+use Rattle.std.proofs.lemmas.Bool.{and_parts}
 use Rattle.units.specs.Numbers.{held_to}
+use Rattle.units.specs.Units.{millis}
 use Rattle.units.specs.declared.Micros.{Micros}
 use Rattle.transitions.specs.Commands.{is_invalid}
 use Rattle.transitions.specs.Events.{event, act, act_coupled}
-use Rattle.transitions.specs.Tasks.{task_open, phase_open, fade_last, level_to_restore, next_move, at_limit}
-use Rattle.transitions.specs.declared.actions.ActionKind.TheVariants.{D}
+use Rattle.transitions.specs.Tasks.{task_open, task_due, phase_open, fade_last, level_to_restore, next_move, at_limit}
+use Rattle.transitions.specs.declared.actions.ActionKind.TheVariants.{D, R}
 use Rattle.transitions.specs.declared.events.DeviceAnswer.TheVariants as device
 use Rattle.transitions.specs.declared.events.Event.{Event}
 use Rattle.transitions.specs.declared.events.EventKind.{EventKind}
@@ -41,22 +43,22 @@ use Rattle.level_control.specs.Fades.{restored, fade_ended_by, fade_ended, fade_
 use Rattle.level_control.specs.Moves.{leaves_min, rate_by, move_by, move_goes_on, move_at, begin_move}
 use Rattle.level_control.specs.Reports.{continues, set_level, write_remaining_time}
 use Rattle.level_control.specs.Rest.{start_up_or, start_up_level, start_up_at, started_up}
-use Rattle.level_control.specs.Run.{accepted, asks}
+use Rattle.level_control.specs.Run.{Nothing, accepted, asks, all_refused, state_after}
 use Rattle.level_control.specs.Targets.{quiet, stopped}
 use Rattle.level_control.specs.Reports.{Told}
 use Rattle.level_control.specs.declared.state.LevelControlState.{LevelControlState}
-use Rattle.level_control.proofs.EventLaws.{event_runs, turn_passes, command_passes}
 use Rattle.level_control.proofs.EveryFade.{accepted_zero}
-use Rattle.level_control.proofs.SeenLaws.{asks_append, asks_after, silent_coupled, silent_reports}
-use Rattle.level_control.proofs.StartLaws.{continues_is}
-use Rattle.matter.specs.Matter.{move_to, after_off, start_up}
-use Rattle.matter.specs.Agreement.{passes, InRange, levels}
-use Rattle.matter.proofs.Changes.{is_command, command_keeps_level}
+use Rattle.level_control.proofs.EventLaws.{event_refused, event_runs, event_stopped, command_passes}
+use Rattle.level_control.proofs.SeenLaws.{Silent, silent_if, asks_append, asks_after, silent_coupled, silent_reports}
+use Rattle.level_control.proofs.StartLaws.{continues_is, refused_stays}
+use Rattle.matter.specs.Matter.{NotExecuted, move_to, after_off, start_up}
+use Rattle.matter.specs.Agreement.{Unchanged, AtRest, Does, passes, InRange, levels, is_reply, only_replies}
+use Rattle.matter.proofs.Changes.{is_command, command_keeps_level, is_open, is_due, unchanged}
 use Rattle.transitions.specs.declared.causes.Refusal.{Refusal}
 use Rattle.transitions.specs.declared.events.Command.TheVariants as command
 
 -- an accepted event of a kind, as it runs
-runs_as : (s : LevelControlState) (e : Event) (k : EventKind) → e.kind ≡ k → accepted s e ≡ true
+pub runs_as : (s : LevelControlState) (e : Event) (k : EventKind) → e.kind ≡ k → accepted s e ≡ true
     → (command_tests_of s e.moment.on_off k).stopped_by_options ≡ false → event_of s e ≡ run (accept s e.moment.at) k e.moment.at e.moment.on_off
 runs_as s e k q ok free =
     let at : Micros = e.moment.at in
@@ -64,6 +66,23 @@ runs_as s e k q ok free =
     let zero : number_of s (event at on k) ≡ 0 =
     accepted_zero s (event at on k) (subst (λ (x : EventKind). accepted s (event at on x) ≡ true) q ok) in
     ap (λ (x : EventKind). event_of s (event at on x)) q ∙ event_runs s (event at on k) zero free
+
+pub zero_as : (s : LevelControlState) (e : Event) (k : EventKind) → e.kind ≡ k → accepted s e ≡ true → number_of s (event e.moment.at e.moment.on_off k) ≡ 0
+zero_as s e k q ok =
+    accepted_zero s (event e.moment.at e.moment.on_off k)
+    (subst (λ (x : EventKind). accepted s (event e.moment.at e.moment.on_off x) ≡ true) q ok)
+
+-- and one that the options stop
+pub stopped_as : (s : LevelControlState) (e : Event) (k : EventKind) → e.kind ≡ k → accepted s e ≡ true
+    → (command_tests_of s e.moment.on_off k).stopped_by_options ≡ true → event_of s e ≡ done (accept s e.moment.at) []
+stopped_as s e k q ok stopped =
+    ap (λ (x : EventKind). event_of s (event e.moment.at e.moment.on_off x)) q
+    ∙ event_stopped s (event e.moment.at e.moment.on_off k) (zero_as s e k q ok) stopped
+
+-- what the document's options say, the machine's say
+pub options_say : (s : LevelControlState) (e : Event) (with_on_off : Bool) (mask override : OptionsBitmap) (b : Bool) → passes s e with_on_off mask override ≡ b
+    → not (continues s with_on_off e.moment.on_off mask override) ≡ not b
+options_say s e with_on_off mask override b p = ap not (continues_is s with_on_off e.moment.on_off mask override ∙ p)
 
 -- The end of off.
 
@@ -95,22 +114,18 @@ off_ends s e f stored v runs after last k ok =
     ∙ by f.phase refl
   where
     zero : number_of s (event e.moment.at e.moment.on_off (kind.Answer (device.Level v))) ≡ 0
-    zero =
-        accepted_zero s (event e.moment.at e.moment.on_off (kind.Answer (device.Level v)))
-        (subst (λ (x : EventKind). accepted s (event e.moment.at e.moment.on_off x) ≡ true) k ok)
-
-    is_open : not (task_open s.task) ≡ false
-    is_open = (turn_passes _ _ zero).opened
+    zero = zero_as s e (kind.Answer (device.Level v)) k ok
 
     by : (p : Phase) → f.phase ≡ p
         → (fade_answered_in p (accept s e.moment.at) f (device.Level v) e.moment.at e.moment.on_off).state.current_level
         ≡ Some (after_off s.attributes.on_level stored v)
     by (Asked since) q = off_level s f since e.moment.at e.moment.on_off v stored after last
-    by (Waiting until) q = absurd (true≢false (sym (ap (λ (x : Task). not (task_open x)) runs ∙ ap (λ (p : Phase). not (phase_open p)) q) ∙ is_open))
+    by (Waiting until) q =
+        absurd (false≢true (sym (ap task_open runs ∙ ap phase_open q) ∙ is_open s e.moment.at e.moment.on_off (device.Level v) zero))
 
 -- Start-up.
 
-held : (lo hi v level : ℕ) → lo ≤ hi → (v ≡ 0) ⊎ ((lo ≤ v) × (v ≤ hi)) → cond (eqb v 0) (Some lo) (Some v) ≡ Some level → held_to lo hi v ≡ level
+pub held : (lo hi v level : ℕ) → lo ≤ hi → (v ≡ 0) ⊎ ((lo ≤ v) × (v ≤ hi)) → cond (eqb v 0) (Some lo) (Some v) ≡ Some level → held_to lo hi v ≡ level
 held lo hi v level order range says = by (eqb v 0) refl says range
   where
     by : (b : Bool) → eqb v 0 ≡ b → cond b (Some lo) (Some v) ≡ Some level → (v ≡ 0) ⊎ ((lo ≤ v) × (v ≤ hi)) → held_to lo hi v ≡ level
@@ -134,7 +149,7 @@ start_up_agrees s e level k ok order range says =
 
 -- Stop.
 
-passed : (s : LevelControlState) (e : Event) (with_on_off : Bool) (mask override : OptionsBitmap) → passes s e with_on_off mask override ≡ true
+pub passed : (s : LevelControlState) (e : Event) (with_on_off : Bool) (mask override : OptionsBitmap) → passes s e with_on_off mask override ≡ true
     → not (continues s with_on_off e.moment.on_off mask override) ≡ false
 passed s e with_on_off mask override p = ap not (continues_is s with_on_off e.moment.on_off mask override ∙ p)
 
@@ -145,6 +160,47 @@ unfolding run stopped write_remaining_time command_tests_of stop_tests
 stop s e r k ok p =
     let same = runs_as s e (kind.Command (command.Stop r)) k ok (passed s e r.with_on_off r.options_mask r.options_override p) in
     (ap (λ (o : Outcome). o.state.task) same, ap (λ (o : Outcome). o.state.remaining_time.0) same, command_keeps_level s e (ap is_command k))
+
+-- at rest every answer and every wake is refused
+rest_refuses : (s : LevelControlState) (es : List Event) → s.task ≡ task.Rest → only_replies es ≡ true → all_refused s es ≡ true
+rest_refuses s [] q w = refl
+rest_refuses s (e ∷ es) q w =
+    let parts = and_parts (is_reply e.kind) (only_replies es) w in
+    let ne : number_of s e ≡ 0 → ⊥ = not_zero e.kind parts.0 in
+    rw (event_refused s e ne, ne_eqb (number_of s e) 0 ne) (rest_refuses s es q parts.1)
+  where
+    not_zero : (k : EventKind) → is_reply k ≡ true → number_of s (event e.moment.at e.moment.on_off k) ≡ 0 → ⊥
+    not_zero kind.StartUp w z = false≢true w
+    not_zero (kind.Answer a) w z = false≢true (sym (ap task_open q) ∙ is_open s e.moment.at e.moment.on_off a z)
+    not_zero kind.Wake w z = false≢true (sym (ap (λ (x : Task). task_due x e.moment.at) q) ∙ is_due s e.moment.at e.moment.on_off z)
+    not_zero (kind.Command c) w z = false≢true w
+
+pub stop_at_rest : (s : LevelControlState) (e : Event) (r : CommandOptions) (es : List Event)
+    → e.kind ≡ kind.Command (command.Stop r) → accepted s e ≡ true → passes s e r.with_on_off r.options_mask r.options_override ≡ true
+    → only_replies es ≡ true
+    → AtRest s (event_of s e) × (all_refused (event_of s e).state es ≡ true)
+    × ((state_after (event_of s e).state es).current_level ≡ s.current_level) × ((state_after (event_of s e).state es).remaining_time.0 ≡ 0)
+unfolding run stopped command_tests_of stop_tests
+stop_at_rest s e r es k ok p w =
+    let (rests, time, level) = stop s e r k ok p in
+    let same = runs_as s e (kind.Command (command.Stop r)) k ok (passed s e r.with_on_off r.options_mask r.options_override p) in
+    let refuses : all_refused (event_of s e).state es ≡ true = rest_refuses (event_of s e).state es rests w in
+    let stays : state_after (event_of s e).state es ≡ (event_of s e).state = refused_stays (event_of s e).state es refuses in
+    let quietly : Silent (event_of s e).actions =
+    rw same (silent_if R (write_remaining_time (accept s e.moment.at) (millis 0) false).due (record { no_ask = refl; no_open = λ p. refl })) in (
+      record { level = level; rests = rests; asks_nothing = quietly.no_ask; awaits_nothing = quietly.no_open Nothing },
+      refuses,
+      ap (λ (x : LevelControlState). x.current_level) stays ∙ level,
+      ap (λ (x : LevelControlState). x.remaining_time.0) stays ∙ time,
+    )
+
+pub stop_not_executed : (s : LevelControlState) (e : Event) (r : CommandOptions)
+    → e.kind ≡ kind.Command (command.Stop r) → accepted s e ≡ true → passes s e r.with_on_off r.options_mask r.options_override ≡ false
+    → Does s e NotExecuted
+unfolding command_tests_of stop_tests
+stop_not_executed s e r k ok p =
+    unchanged s (event_of s e) e.moment.at
+    (stopped_as s e (kind.Command (command.Stop r)) k ok (options_say s e r.with_on_off r.options_mask r.options_override false p))
 
 -- Move.
 
@@ -214,9 +270,7 @@ move_asks s e r c k ok p level low high small =
     free = passed s e r.options.with_on_off r.options.options_mask r.options.options_override p
 
     zero : number_of s (event e.moment.at e.moment.on_off (kind.Command (command.Move r))) ≡ 0
-    zero =
-        accepted_zero s (event e.moment.at e.moment.on_off (kind.Command (command.Move r)))
-        (subst (λ (x : EventKind). accepted s (event e.moment.at e.moment.on_off x) ≡ true) k ok)
+    zero = zero_as s e (kind.Command (command.Move r)) k ok
 
     valid : is_invalid (rate_by s r) ≡ false
     valid = (command_passes _ _ zero free).valid
@@ -229,3 +283,43 @@ move_asks s e r c k ok p level low high small =
         → cond (at_limit (Some c) m lo hi) [] (asks (move_at (rate_by s' r) s' r at on).actions) ≡ levels (move_to m lo hi c)
     by Up h = next_up lo hi c high small _ h
     by Down h = next_down lo hi c low _ h
+
+pub move_at_limit : (s : LevelControlState) (e : Event) (r : MoveRequest) (c : ℕ)
+    → e.kind ≡ kind.Command (command.Move r) → accepted s e ≡ true → passes s e r.options.with_on_off r.options.options_mask r.options.options_override ≡ true
+    → s.current_level ≡ Some c → move_to r.mode s.settings.range.min s.settings.range.max c ≡ None
+    → Unchanged s (event_of s e)
+unfolding run begin_move command_tests_of move_tests at_limit
+move_at_limit s e r c k ok p level at_end =
+    unchanged s (event_of s e) e.moment.at
+    (runs_as s e (kind.Command (command.Move r)) k ok (passed s e r.options.with_on_off r.options.options_mask r.options.options_override p)
+    ∙ ap (λ (l : Level). cond (at_limit l r.mode lo hi) (done s' []) further) level
+    ∙ ap (λ (b : Bool). cond b (done s' []) further) (by r.mode at_end))
+  where
+    s' : LevelControlState
+    s' = accept s e.moment.at
+
+    further : Outcome
+    further = move_at (rate_by s' r) s' r e.moment.at e.moment.on_off
+
+    lo : ℕ
+    lo = s.settings.range.min
+
+    hi : ℕ
+    hi = s.settings.range.max
+
+    limit : (b : Bool) (to : ℕ) → cond b None (Some to) ≡ None → b ≡ true
+    limit true to q = refl
+    limit false to q = absurd (let z : ◌≡◌ {A = ℕ} 0 1 = cc in omega arith)
+
+    by : (m : Mode) → move_to m lo hi c ≡ None → at_limit (Some c) m lo hi ≡ true
+    by Up q = limit (eqb c hi) _ q
+    by Down q = limit (eqb c lo) _ q
+
+pub move_not_executed : (s : LevelControlState) (e : Event) (r : MoveRequest)
+    → e.kind ≡ kind.Command (command.Move r) → accepted s e ≡ true → passes s e r.options.with_on_off r.options.options_mask r.options.options_override ≡ false
+    → Does s e NotExecuted
+unfolding command_tests_of move_tests
+move_not_executed s e r k ok p =
+    unchanged s (event_of s e) e.moment.at
+    (stopped_as s e (kind.Command (command.Move r)) k ok
+    (options_say s e r.options.with_on_off r.options.options_mask r.options.options_override false p))

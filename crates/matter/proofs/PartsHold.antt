@@ -32,6 +32,7 @@ parts = record {
   level_255 = (refl, refl);
   missing_time = (refl, refl);
   remaining_at_start_parts = (refl, refl);
+  remaining_at_target = (refl, refl);
   remaining_in_move = refl;
   coupled_late = (refl, refl);
   coupled_below_min = refl;

@@ -1,3 +1,4 @@
 pub mod Matter
 pub mod Agreement
 pub mod Parts
+pub mod Ends

@@ -4,19 +4,22 @@
 --   [told]     told by others, as in a list of known disagreements; not seen in the text
 --   [general]  general knowledge, not checked against the text
 -- docs/DIFFERENCES.md has a row for each disagreement.
-use Rattle.std.specs.Prelude.{ℕ, ◌-◌, ◌*◌, ◌/◌, Bool, cond, ltb, eqb, Some, None}
+use Rattle.std.specs.Prelude.{ℕ, ◌-◌, ◌*◌, ◌/◌, Bool, false, cond, ltb, eqb, Some, None}
 use Rattle.units.specs.Numbers.{apart}
 use Rattle.transitions.specs.Matter.{increased, decreased}
 use Rattle.transitions.specs.Types.{Level}
 use Rattle.transitions.specs.declared.types.Mode.{Mode}
 use Rattle.transitions.specs.declared.types.Mode.TheVariants.{Up, Down}
+use Rattle.transitions.specs.Types.{Rate}
 use Rattle.transitions.specs.Types.{Time}
 
 -- what a command does to CurrentLevel
 pub data Effect : Type 0 where
   -- the command is answered with INVALID_COMMAND
   Invalid : Effect
-  -- CurrentLevel stays
+  -- the Options processing stops the command: nothing happens [source]
+  NotExecuted : Effect
+  -- CurrentLevel is at its target already: it stays, and what ran is over [general]
   NoEffect : Effect
   -- CurrentLevel goes from a level to another in so many tenths of a second
   Goes : ℕ → ℕ → ℕ → Effect
@@ -37,7 +40,7 @@ or_else None other = other
 -- that is null, in OnOffTransitionTime [told]
 abbrev pub move_to_level : Bool → ℕ → ℕ → ℕ → ℕ → Time → ℕ → Effect
 move_to_level executed min max current level given on_off_time =
-    cond (ltb 254 level) Invalid (cond executed (goes current (within min max level) (or_else given on_off_time)) NoEffect)
+    cond (ltb 254 level) Invalid (cond executed (goes current (within min max level) (or_else given on_off_time)) NotExecuted)
 
 -- "Step Command": a StepSize of 0 is INVALID_COMMAND [source]; else by StepSize units, or until the limit is reached, and in the latter case the time is
 -- proportionally reduced [source]; rounded down, which is ours. A null time is as fast as able [general]
@@ -55,9 +58,14 @@ step executed mode min max current size given =
     cond (eqb size 0) Invalid
     (cond executed
     (goes current (step_to mode min max current size) (reduced given (apart (step_to mode min max current size) current) size))
-    NoEffect)
+    NotExecuted)
 
--- "Move Command": one unit after the other, up or down, as long as the limit is not reached [source, general]
+-- "Move Command": a Rate of 0 is INVALID_COMMAND [source]; of a null Rate and a DefaultMoveRate of 0 the document is not explicit [source]
+abbrev pub move_is_invalid : Rate → Bool
+move_is_invalid (Some rate) = eqb rate 0
+move_is_invalid None = false
+
+-- one unit after the other, up or down, as long as the limit is not reached [source, general]
 abbrev pub move_to : Mode → ℕ → ℕ → ℕ → Level
 move_to Up min max current = cond (eqb current max) None (Some (increased 1 current max))
 move_to Down min max current = cond (eqb current min) None (Some (decreased 1 current min))
@@ -89,8 +97,9 @@ start_up (Some value) min previous = cond (eqb value 0) (Some min) (Some value)
 start_up None min previous = previous
 
 -- "RemainingTime Attribute": "the time remaining until the current command is complete" [general]: of a command whose CurrentLevel goes in some tenths, these
--- when it is received
+-- when it is received; none, if its target is reached already
 abbrev pub remaining_at_start : Effect → ℕ → ℕ
 remaining_at_start Invalid before = before
-remaining_at_start NoEffect before = before
+remaining_at_start NotExecuted before = before
+remaining_at_start NoEffect before = 0
 remaining_at_start (Goes from to tenths) before = tenths

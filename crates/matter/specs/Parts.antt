@@ -91,6 +91,10 @@ pub record Parts : Type 0 where
   -- Of a fade in 3 tenths 3 remain when it is received; the machine shows what it showed before, until the first answer.
   pub remaining_at_start_parts : (remaining_after lamp10 (at 0 (to false 13 (Some (tenths 3))) ∷ []) ≡ 0)
       × (remaining_at_start (move_to_level true 1 254 10 13 (Some (tenths 3)) 0) 0 ≡ 3)
+  -- Of a command whose target is reached already no time remains; the machine shows what it showed before.
+  pub remaining_at_target : (remaining_after lamp10
+      (at 0 (to false 13 (Some (tenths 3))) ∷ at 0 (answers 11) ∷ at 0 (to false 11 (Some (tenths 3))) ∷ []) ≡ 2)
+      × (remaining_at_start (move_to_level true 1 254 11 11 (Some (tenths 3)) 0) 2 ≡ 0)
   -- After a move has replaced the fade the time that the fade showed stays, and the move itself writes none.
   pub remaining_in_move : remaining_after lamp10
       (at 0 (to false 13 (Some (tenths 3))) ∷ at 0 (answers 11) ∷ at 0 (moves Up (Some 10)) ∷ at 0 (answers 12) ∷ []) ≡ 2

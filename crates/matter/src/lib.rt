@@ -2,6 +2,7 @@
 #![tactic(auto)]
 
 ghost use Rattle.matter.specs.Agreement.{Agreement};
+ghost use Rattle.matter.specs.Ends.{CommandsEnd};
 ghost use Rattle.matter.specs.Parts.{Parts};
 
 /// Where the machine does what the document says, for every state on the inputs that each line names.
@@ -14,4 +15,10 @@ pub fn commands_agree()
 #[tactic(auto, using(crate::proofs::PartsHold::parts))]
 pub fn commands_part()
     ensures { Parts }
+{}
+
+/// Where its commands lead, to their end, if the device gives back each level that it is asked for.
+#[tactic(auto, using(crate::proofs::CommandsEnd::commands_end))]
+pub fn commands_end()
+    ensures { CommandsEnd }
 {}

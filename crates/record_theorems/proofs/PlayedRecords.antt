@@ -1,12 +1,13 @@
--- The small play of Sheet as records, computed. Assumes nothing.
+-- The small play of Sheet as records, and a play for each of the five starts, computed. Assumes nothing.
 use Rattle.std.specs.Prelude.{Some}
 use Prim.Native.Nat.{ℕ}
 use mathlib.Core.Bool.{Bool, true, false, ◌&&◌}
-use mathlib.Core.Path.{◌≡◌, refl}
+use mathlib.Core.Path.{◌≡◌, refl, sym}
 use mathlib.Core.List.{List, [], ◌∷◌}
 use native.Mathlib.Omega.{arith}
 use borrow.Author.Tests.{ltb-true}
 use lib.Dec.{ltb}
+use lib.ListN.{take}
 use Rattle.std.proofs.lemmas.Bool.{and_parts}
 use Rattle.units.specs.Units.{scaled_floor, tenths, micros}
 use Rattle.transitions.specs.Causes.{first_cause}
@@ -27,8 +28,8 @@ use Rattle.level_control.specs.Fades.{fade_coupling, fade_stored, fade_told, res
 use Rattle.level_control.specs.Reactions.{on_time, off_time, turned_on, on_goes_on, on_answered, turned_off, switched}
 use Rattle.level_control.specs.Causes.{time_refused, turn_tests, move_to_level_tests, step_overflows, step_tests, scene_tests, level_tests, command_tests_of}
 use Rattle.level_control.specs.Events.{answered, woken, run, number_of, event_of}
-use Rattle.level_control.specs.Run.{next}
-use Rattle.level_control.specs.Starts.{start_of}
+use Rattle.level_control.specs.Run.{Request, next, started}
+use Rattle.level_control.specs.Starts.{start_of, on_start, distance}
 use Rattle.records.specs.Events.{event_read, kind_read}
 use Rattle.records.specs.Laws.{AllBytes}
 use Rattle.records.specs.Settings.{settings_at, settings_read}
@@ -38,10 +39,13 @@ use Rattle.transitions.specs.declared.events.Event.{Event}
 use Rattle.transitions.specs.declared.events.EventKind.TheVariants as kind
 use Rattle.transitions.specs.declared.settings.Settings.{Settings}
 use Rattle.level_control.specs.Answer.{Outcome}
-use Rattle.record_theorems.specs.RecordTheorems.{Configured}
-use Rattle.record_theorems.specs.RecordPlays.{Record, answer_to, StartsAt, directly}
-use Rattle.record_theorems.specs.RecordInstance.{settings_bytes, start_bytes, at, Instance}
-use Rattle.record_theorems.proofs.RecordsHold.{every_fade_recorded}
+use Rattle.record_theorems.specs.RecordTheorems.{Configured, later}
+use Rattle.record_theorems.specs.RecordPlays.{Record, bytes_of, answer_to, answers_of, seen, only_onward, StartsAt, directly, after_on}
+use Rattle.record_theorems.specs.RecordInstance.{settings_bytes, start_bytes, at, numbers, Instance, lamp_bytes, event_bytes, move_to13, step_by3, off, scene_of13, StartInstance, StartInstances}
+use Rattle.record_theorems.proofs.RecordsHold.{every_fade_recorded, records_come_to_rest}
+use Rattle.level_theorems.specs.Replies.{answers_from, in_time}
+use Rattle.level_theorems.specs.Instances.{device3}
+use Rattle.level_theorems.specs.Instances as played
 use Rattle.transitions.specs.declared.events.Command.TheVariants as command
 
 abbrev all_small : List ℕ → Bool
@@ -95,4 +99,74 @@ instance =
       onward = refl;
       shown = every_fade_recorded x (first ∷ []) after o 10 13 3 conf starts (λ e. omega arith) (omega arith) refl;
       all_answered = refl;
+    }
+
+-- The five starts.
+
+abbrev follow : List Record
+follow =
+    held (event_bytes 11 2050000 (0 ∷ [])) refl
+    ∷ held (event_bytes 99 2100000 []) refl
+    ∷ held (event_bytes 5 2150000 (0 ∷ 40 ∷ [])) refl
+    ∷ held (event_bytes 5 2200000 (0 ∷ 7 ∷ [])) refl
+    ∷ held (event_bytes 6 2200001 []) refl
+    ∷ held (event_bytes 6 2250000 []) refl
+    ∷ held (event_bytes 5 2260000 (0 ∷ 200 ∷ [])) refl
+    ∷ []
+
+-- a row, from what is computed
+row : (x : Settings) (head : List ℕ) (conf : Configured x) → conf.head.bytes ≡ head → (up : List Record) (o : Outcome) (c t : ℕ) (got asked : List ℕ)
+    → StartsAt (new_state x) up o c t 3 → (c ≡ t → ⊥) → distance t c ≡ 3
+    → numbers (answers_of (new_state x) up) ≡ got
+    → numbers (later x up follow) ≡ 6 ∷ 1 ∷ 0 ∷ 0 ∷ 8 ∷ 0 ∷ 0 ∷ []
+    → only_onward follow (later x up follow) ≡ true
+    → (seen (started o) follow (later x up follow)).asked ≡ asked
+    → (seen (started o) (take 3 follow) (later x up follow)).pending ≡ Request
+    → in_time (answers_from (started o) device3) ≡ true
+    → StartInstance head (bytes_of up) got c t asked
+row x head conf is up o c t got asked w ne n up_numbers numbers onward asks late time = record {
+  settings = x;
+  configured = conf;
+  settings_have_bytes = is;
+  up = up;
+  up_has_bytes = refl;
+  up_answered = up_numbers;
+  first = o;
+  starts = w;
+  after = follow;
+  after_has_bytes = refl;
+  answered = numbers;
+  onward = onward;
+  shown = every_fade_recorded x up follow o c t 3 conf w ne (omega arith) onward;
+  asks = asks;
+  late = late;
+  ends = records_come_to_rest x up o c t 3 device3 conf w ne (omega arith) (sym n) (omega arith, (omega arith, (omega arith, tt))) time;
+}
+
+abbrev at10 : Settings
+at10 = settings_at (lamp_bytes 10)
+
+abbrev at4 : Settings
+at4 = settings_at (lamp_bytes 4)
+
+pub start_instances : StartInstances
+unfolding answered begin_fade command_tests_of continues coupled_by coupled_on_off current_level_due event_of event_read executes fade_answered fade_asking fade_coupling fade_ended fade_from fade_goes_on fade_period fade_stored fade_told fade_waiting fade_woken first_cause go_to is_transition_start kind_read level_due level_or level_tests level_to_restore move_to_level_tests move_to_level_transition moved_to_level new_state next next_level number_of off_time on_answered on_goes_on on_start on_time outcomes_of rate_in_force recalled record_outcome remaining_after remaining_time_due reports_of restored run same_level scaled_floor scene_tests set_level settings_read should_continue start_of step_level step_overflows step_tests step_time stepped stepped_level stepped_time switched target_level time_or time_refused told_level turn_tests turned_off turned_on wait_or_ask woken write_remaining_time
+start_instances =
+    let ten : Configured at10 = record { head = held (lamp_bytes 10) refl; read = refl } in
+    let four : Configured at4 = record { head = held (lamp_bytes 4) refl; read = refl } in
+    let move = held move_to13 refl in
+    let step = held step_by3 refl in
+    let dark = held off refl in
+    let scene = held scene_of13 refl in
+    record {
+      by_move_to_level = row at10 _ ten refl (move ∷ []) _ 10 13 _ _ (directly [] move played.move_to13 10 13 3 refl refl refl) (λ e. omega arith) refl refl refl refl refl refl refl;
+      by_step = row at10 _ ten refl (step ∷ []) _ 10 13 _ _ (directly [] step played.step_by3 10 13 3 refl refl refl) (λ e. omega arith) refl refl refl refl refl refl refl;
+      by_off = row at4 _ four refl (dark ∷ []) _ 4 1 _ _ (directly [] dark played.off 4 1 3 refl refl refl) (λ e. omega arith) refl refl refl refl refl refl refl;
+      by_on =
+          row at10 _ ten refl _ _ 2 5 _ _
+          (after_on [] (held (event_bytes 7 1000000 (1 ∷ [])) refl) played.on
+          (held (event_bytes 6 1500000 []) refl ∷ held (event_bytes 99 1500000 []) refl ∷ [])
+          (held (event_bytes 5 2000000 (0 ∷ 2 ∷ [])) refl) played.answer2 2 2 5 3 refl refl refl refl refl refl refl refl)
+          (λ e. omega arith) refl refl refl refl refl refl refl;
+      by_scene = row at10 _ ten refl (scene ∷ []) _ 10 13 _ _ (directly [] scene played.scene_of13 10 13 3 refl refl refl) (λ e. omega arith) refl refl refl refl refl refl refl;
     }

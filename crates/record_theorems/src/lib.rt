@@ -1,7 +1,7 @@
 //! Every event and Every fade over records of bytes, each theorem held by a function's contract: there is nothing to run.
 #![tactic(auto)]
 
-ghost use Rattle.record_theorems.specs.RecordInstance.{Instance};
+ghost use Rattle.record_theorems.specs.RecordInstance.{Instance, StartInstances};
 ghost use Rattle.record_theorems.specs.RecordTheorems.{AnswerRecordsAccepted, EveryEventRecorded, EveryFadeRecorded, RecordedWaitsEnd, RecordsComeToRest, WakeRecordsAccepted};
 
 /// Every event: the text is made from the answers to the records; a damaged or refused one changes nothing; no refused call
@@ -43,4 +43,11 @@ pub fn recorded_waits_end()
 #[tactic(auto, using(crate::proofs::PlayedRecords::instance))]
 pub fn recorded_instance_holds()
     ensures { Instance }
+{}
+
+/// Nor is one of the five starts left out: a play of records for each, with a damaged record, refused events, a late answer
+/// and a device that answers other levels.
+#[tactic(auto, using(crate::proofs::PlayedRecords::start_instances))]
+pub fn recorded_starts_hold()
+    ensures { StartInstances }
 {}

@@ -6,3 +6,4 @@ pub mod MissingLaws
 pub mod WrittenLaws
 pub mod RecordLaws
 pub mod KindLaws
+pub mod ValueLaws

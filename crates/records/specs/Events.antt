@@ -14,6 +14,7 @@ use Rattle.transitions.specs.declared.events.EventKind.TheVariants as kind
 use Rattle.transitions.specs.declared.options.CommandOptions.{CommandOptions}
 use Rattle.transitions.specs.declared.types.Mode.{Mode}
 use Rattle.transitions.specs.declared.types.Mode.TheVariants.{Up, Down}
+use Rattle.records.specs.Written.{bit, kind_number}
 use Rattle.records.specs.Bytes.{byte_at, clock_time, le32, tenths_at, is_flag, is_set, zeros_from, has_marks}
 
 -- 0 up, 1 down
@@ -125,3 +126,8 @@ event_read s =
 abbrev pub event_read_number : Option Event → ℕ
 event_read_number (Some e) = 0
 event_read_number None = 1
+
+-- the number of its kind, its time, its on/off value
+abbrev pub event_read_values : Option Event → List ℕ
+event_read_values (Some e) = kind_number e.kind ∷ e.moment.at.0 ∷ bit e.moment.on_off ∷ []
+event_read_values None = []

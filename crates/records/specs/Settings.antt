@@ -1,9 +1,11 @@
 -- Records, settings: what a record says, and why it is refused (Causes, 1 to 4).
-use Rattle.std.specs.Prelude.{ℕ, ◌/◌, ◌%◌, ◌^◌, Bool, if◌then◌else◌, not, ◌&&◌, List, nat_le, nat_lt, nat_eq, Result, Ok, Err}
+use Rattle.std.specs.Prelude.{ℕ, ◌/◌, ◌%◌, ◌^◌, Bool, if◌then◌else◌, not, ◌&&◌, List, [], ◌∷◌, ◌++◌, nat_le, nat_lt, nat_eq, Result, Ok, Err}
 use Rattle.std.specs.Bool.{then_some}
 use Rattle.transitions.specs.declared.settings.Attributes.{Attributes}
 use Rattle.transitions.specs.declared.settings.Settings.{Settings}
-use Rattle.records.specs.Bytes.{byte_at, tenths_at, is_flag, is_set, zeros_from, has_marks}
+use Rattle.transitions.specs.Types.{level_values, time_values}
+use Rattle.records.specs.Written.{bit}
+use Rattle.records.specs.Bytes.{byte_at, le16, tenths_at, is_flag, is_set, zeros_from, has_marks}
 use Rattle.records.specs.declared.refusal.RecordRefusal.{RecordRefusal}
 use Rattle.records.specs.declared.refusal.RecordRefusal.TheVariants.{RecordWrong, MaxAbove254, MinAboveMax, LightingMin0}
 
@@ -59,3 +61,23 @@ refusal_number LightingMin0 = 4
 abbrev pub settings_read_number : Result Settings RecordRefusal → ℕ
 settings_read_number (Ok settings) = 0
 settings_read_number (Err refusal) = refusal_number refusal
+
+-- the values that are read, in the order of the record; a missing one is left out
+abbrev pub settings_read_values : Result Settings RecordRefusal → List ℕ
+settings_read_values (Ok x) =
+    let a = x.attributes in
+    x.range.min ∷ x.range.max ∷ bit x.coupled ∷ a.options.0 ∷ x.fastest_rate
+    ∷ level_values x.current_level ++ level_values a.on_level ++ level_values a.start_up_current_level ++ level_values a.default_move_rate
+    ++ a.on_off_transition_time.0 ∷ time_values a.on_transition_time ++ time_values a.off_transition_time ++ bit x.lighting ∷ []
+settings_read_values (Err refusal) = []
+
+-- the same, as they stand in the bytes
+
+abbrev known_value : List ℕ → ℕ → ℕ → List ℕ
+known_value s bit value = if known_bit s bit then value ∷ [] else []
+
+abbrev pub settings_values_at : List ℕ → List ℕ
+settings_values_at s =
+    byte_at s 2 ∷ byte_at s 3 ∷ byte_at s 4 ∷ byte_at s 5 ∷ byte_at s 6
+    ∷ known_value s 0 (byte_at s 7) ++ known_value s 1 (byte_at s 8) ++ known_value s 2 (byte_at s 9) ++ known_value s 3 (byte_at s 10)
+    ++ le16 s 12 ∷ known_value s 4 (le16 s 14) ++ known_value s 5 (le16 s 16) ++ byte_at s 18 ∷ []

@@ -1,11 +1,13 @@
 //! A list of plays (oracle/README.md, "A list of plays"), read piece by piece: it may be longer than the memory.
+use crate::pairs::are_whole;
 use std::io;
 use std::io::Read;
 
-/// A list with longer records or a longer sheet counts as cut.
-pub(crate) const MOST_RECORDS: usize = 5_141;
+/// The most bytes of a play's records. A list with a longer part counts as cut.
+const MOST_RECORDS: usize = 5_141;
 
-pub(crate) const MOST_SHEET: usize = 65_536;
+/// The most bytes of its sheet, of its states, and of its pairs.
+const MOST_TEXT: usize = 65_536;
 
 #[derive(Drop)]
 pub(crate) struct List<R> {
@@ -17,10 +19,32 @@ pub(crate) struct List<R> {
     read: u32,
 }
 
+/// Room for one play.
+#[derive(Drop)]
+pub(crate) struct PlayRoom {
+    records: [u8; MOST_RECORDS],
+    sheet: [u8; MOST_TEXT],
+    states: [u8; MOST_TEXT],
+    pairs: [u8; MOST_TEXT],
+}
+
+/// A play, and what the Rust gives for it.
 #[derive(Clone, Copy, Debug)]
 pub(crate) struct Play<'a> {
     pub(crate) records: &'a [u8],
     pub(crate) sheet: &'a [u8],
+    /// The whole state after each line of the sheet.
+    pub(crate) states: &'a [u8],
+    /// The pairs of its scenes.
+    pub(crate) pairs: &'a [u8],
+}
+
+#[derive(Clone, Copy, Debug)]
+struct Lengths {
+    records: usize,
+    sheet: usize,
+    states: usize,
+    pairs: usize,
 }
 
 /// The sum of all bytes, modulo 2^32.
@@ -30,11 +54,31 @@ fn add_bytes(sum: u32, bytes: &[u8]) -> u32 {
         .fold(sum, |total, &byte| total.wrapping_add(u32::from(byte)))
 }
 
-/// The two numbers that a head ends with, low byte first, or nothing where it is cut.
-fn two_numbers(bytes: &[u8]) -> Option<(u32, u32)> {
-    let (first, second) = bytes.split_first_chunk::<4>()?;
-    let second: &[u8; 4] = second.as_array()?;
-    Some((u32::from_le_bytes(*first), u32::from_le_bytes(*second)))
+/// A number of a head, low byte first, and what follows it, or nothing where it is cut.
+fn number(bytes: &[u8]) -> Option<(u32, &[u8])> {
+    let (first, rest) = bytes.split_first_chunk::<4>()?;
+    Some((u32::from_le_bytes(*first), rest))
+}
+
+/// The number of plays and the sum.
+fn plays_and_sum(bytes: &[u8]) -> Option<(u32, u32)> {
+    let (plays, bytes) = number(bytes)?;
+    let (sum, _) = number(bytes)?;
+    Some((plays, sum))
+}
+
+/// Lengths have 32 bits in a head.
+fn lengths_of(bytes: &[u8]) -> Option<Lengths> {
+    let (records, bytes) = number(bytes)?;
+    let (sheet, bytes) = number(bytes)?;
+    let (states, bytes) = number(bytes)?;
+    let (pairs, _) = number(bytes)?;
+    Some(Lengths {
+        records: records as usize,
+        sheet: sheet as usize,
+        states: states as usize,
+        pairs: pairs as usize,
+    })
 }
 
 /// The next n bytes, or as many as there are and the room holds.
@@ -47,12 +91,23 @@ fn read_some<'a>(input: &mut impl Read, n: usize, room: &'a mut [u8]) -> io::Res
     Ok(&room[..read])
 }
 
+impl PlayRoom {
+    pub(crate) fn new() -> PlayRoom {
+        PlayRoom {
+            records: [0; MOST_RECORDS],
+            sheet: [0; MOST_TEXT],
+            states: [0; MOST_TEXT],
+            pairs: [0; MOST_TEXT],
+        }
+    }
+}
+
 impl<R: Read + Drop> List<R> {
     /// Nothing where the input does not begin as a list does.
     pub(crate) fn open(mut input: R) -> io::Result<Option<List<R>>> {
         let mut room = [0; 16];
         let head = read_some(&mut input, 16, &mut room)?;
-        let Some((plays, sum)) = head.strip_prefix(b"LCPLAYS1").and_then(two_numbers) else {
+        let Some((plays, sum)) = head.strip_prefix(b"LCPLAYS2").and_then(plays_and_sum) else {
             return Ok(None);
         };
         Ok(Some(List {
@@ -71,24 +126,33 @@ impl<R: Read + Drop> List<R> {
     }
 
     /// The next play, in the room that is lent, or nothing where the list is cut.
-    pub(crate) fn play<'a>(
-        &mut self,
-        records: &'a mut [u8; MOST_RECORDS],
-        sheet: &'a mut [u8; MOST_SHEET],
-    ) -> io::Result<Option<Play<'a>>> {
-        let mut room = [0; 8];
-        let head = self.read_summed(8, &mut room)?;
-        let Some((n, m)) = two_numbers(head) else {
+    pub(crate) fn play<'a>(&mut self, room: &'a mut PlayRoom) -> io::Result<Option<Play<'a>>> {
+        let mut head = [0; 16];
+        let head = self.read_summed(16, &mut head)?;
+        let Some(lengths) = lengths_of(head) else {
             return Ok(None);
         };
-        // Lengths have 32 bits in a head.
-        let (n, m) = (n as usize, m as usize);
-        let records = self.read_summed(n, records)?;
-        let sheet = self.read_summed(m, sheet)?;
-        if records.len() < n || sheet.len() < m {
-            return Ok(None);
-        }
-        Ok(Some(Play { records, sheet }))
+        let PlayRoom {
+            records,
+            sheet,
+            states,
+            pairs,
+        } = room;
+        let records = self.read_summed(lengths.records, records)?;
+        let sheet = self.read_summed(lengths.sheet, sheet)?;
+        let states = self.read_summed(lengths.states, states)?;
+        let pairs = self.read_summed(lengths.pairs, pairs)?;
+        let whole = records.len() == lengths.records
+            && sheet.len() == lengths.sheet
+            && states.len() == lengths.states
+            && pairs.len() == lengths.pairs
+            && are_whole(pairs);
+        Ok(whole.then_some(Play {
+            records,
+            sheet,
+            states,
+            pairs,
+        }))
     }
 
     /// Whether nothing follows, and the sum is the head's.

@@ -1,5 +1,8 @@
-//! The sheet of a play with the whole state after each line (oracle/README.md, "A port"). Its lines are made from the
-//! answers of the handler's methods, as a caller of them gets them. The sheet itself is written in place.
+//! What the handler gives for a play, as text: the lines of a sheet, and the whole state after each of them (oracle/README.md,
+//! "A port"). The lines are made from the answers of its methods, as a caller of them gets them, and do not lean on the crates
+//! that write the sheet.
+use crate::list::Play;
+use crate::pairs::{ScenePairs, next_scene};
 use handler::LevelControlHandler;
 use level_control::answer::Answer;
 use level_control::state::LevelControlState;
@@ -13,6 +16,8 @@ use std::io;
 use std::io::Write;
 use transitions::actions::{Action, ActionKind};
 use transitions::events::{Command, Event, EventKind, SceneRequest};
+use transitions::settings::Settings;
+use transitions::types::Moment;
 use units::Tenths;
 
 fn print_known(out: &mut impl Write, value: Option<impl Display + Drop>) -> io::Result<()> {
@@ -41,48 +46,70 @@ fn print_state(out: &mut impl Write, state: LevelControlState) -> io::Result<()>
     writeln!(out)
 }
 
-/// A letter, and a value where the sheet shows one: decided here anew, so that these lines do not lean on the text crate.
+/// A letter, and a value where the sheet shows one, or where one stands that is to be 0.
 fn print_action(out: &mut impl Write, action: Action) -> io::Result<()> {
     match action.kind {
         ActionKind::D | ActionKind::C | ActionKind::W | ActionKind::E => {
             write!(out, " {:?}{}", action.kind, action.value)
         }
-        kind => write!(out, " {kind:?}"),
+        kind if action.value == 0 => write!(out, " {kind:?}"),
+        kind => write!(out, " {kind:?}{}", action.value),
     }
 }
 
-fn print_line(
+/// An answer's actions. Behind them stands what no sheet shows: a slot that is not filled and holds anything but X with 0, or a count
+/// beyond the array.
+fn print_actions(out: &mut impl Write, actions: &[Action; 7], count: usize) -> io::Result<()> {
+    let Some((filled, free)) = actions.split_at_checked(count) else {
+        return write!(out, " count {count}");
+    };
+    for action in filled {
+        print_action(out, *action)?;
+    }
+    for action in free {
+        if action.kind != ActionKind::X || action.value != 0 {
+            write!(out, " free {:?}{}", action.kind, action.value)?;
+        }
+    }
+    Ok(())
+}
+
+/// The front of a line.
+fn print_outcome(
     out: &mut impl Write,
     index: u64,
     number: u8,
     state: LevelControlState,
-    actions: &[Action],
 ) -> io::Result<()> {
     write!(out, "{index} {number}")?;
     print_known(out, state.current_level)?;
-    write!(out, " {}", state.remaining_time.0)?;
-    for action in actions {
-        print_action(out, *action)?;
-    }
-    writeln!(out)?;
-    print_state(out, state)
+    write!(out, " {}", state.remaining_time.0)
 }
 
-/// The level stands among pairs that do not decide: of another attribute, without a value, and behind the first.
-fn recalled(handler: LevelControlHandler, event: Event, scene: SceneRequest) -> Answer {
-    let time = scene.transition_time;
-    match scene.level {
-        Some(level) => handler.apply(
-            event.moment,
-            &[8, 0, 0, 0],
-            &[1, 256, u16::from(level), 7],
-            time,
-        ),
-        None => handler.apply(event.moment, &[8, 0], &[1, 256], time),
+/// By the pairs of the list or, where those are used up, by the level of the record.
+fn recalled(
+    handler: LevelControlHandler,
+    moment: Moment,
+    scene: SceneRequest,
+    pairs: Option<ScenePairs>,
+) -> Answer {
+    match pairs {
+        Some(pairs) => {
+            let mut ids = [0; 255];
+            let mut values = [0; 255];
+            handler.apply(
+                moment,
+                pairs.ids(&mut ids),
+                pairs.values(&mut values),
+                scene.transition_time,
+            )
+        }
+        None => handler.recall(moment, scene),
     }
 }
 
-fn handled(state: LevelControlState, event: Event) -> Answer {
+/// A scene takes its pairs from those that are left.
+fn handled(state: LevelControlState, event: Event, pairs: &mut &[u8]) -> Answer {
     let handler = LevelControlHandler { state };
     let moment = event.moment;
     match event.kind {
@@ -95,7 +122,7 @@ fn handled(state: LevelControlState, event: Event) -> Answer {
             Command::Step(request) => handler.step(moment, request),
             Command::Stop(options) => handler.stop(moment, options),
             Command::OnOffChanged(on) => handler.handle_on_off_state_change(moment, on),
-            Command::Scene(scene) => recalled(handler, event, scene),
+            Command::Scene(scene) => recalled(handler, moment, scene, take_scene(pairs)),
             Command::DeviceUpdate(level) => handler.update(moment, level),
             Command::DeviceStop => handler.device_stop(moment),
             Command::SetOnLevel(level) => handler.set_on_level(moment, level),
@@ -108,29 +135,94 @@ fn handled(state: LevelControlState, event: Event) -> Answer {
     }
 }
 
-fn print_events(out: &mut impl Write, events: &[u8], start: LevelControlState) -> io::Result<()> {
-    let mut state = start;
+fn take_scene<'a>(pairs: &mut &'a [u8]) -> Option<ScenePairs<'a>> {
+    let (scene, rest) = next_scene(pairs)?;
+    *pairs = rest;
+    Some(scene)
+}
+
+fn print_events(
+    lines: &mut impl Write,
+    states: &mut impl Write,
+    events: &[u8],
+    pairs: &[u8],
+    settings: Settings,
+) -> io::Result<()> {
+    let mut state = LevelControlState::new(settings);
+    let mut pairs = pairs;
     for (index, record) in (1..).zip(events.chunks_exact(RECORD)) {
-        let Some(event) = read_event(record) else {
-            print_line(out, index, u8::from(RecordRefusal::RecordWrong), state, &[])?;
-            continue;
-        };
-        let answer = handled(state, event);
-        state = answer.state;
-        let number = answer.refusal.map_or(0, u8::from);
-        let actions = answer.actions.get(..answer.count).unwrap_or(&[]);
-        print_line(out, index, number, state, actions)?;
+        if let Some(event) = read_event(record) {
+            let answer = handled(state, event, &mut pairs);
+            state = answer.state;
+            let number = answer.refusal.map_or(0, u8::from);
+            print_outcome(lines, index, number, state)?;
+            print_actions(lines, &answer.actions, answer.count)?;
+        } else {
+            print_outcome(lines, index, u8::from(RecordRefusal::RecordWrong), state)?;
+        }
+        writeln!(lines)?;
+        print_state(states, state)?;
     }
     Ok(())
 }
 
-/// Of a play that is refused, its sheet, which has no state.
-pub(crate) fn print_states(out: &mut impl Write, records: &[u8], sheet: &[u8]) -> io::Result<()> {
-    if length_ok(records.len())
-        && let Some((first, events)) = records.split_at_checked(RECORD)
-        && let Ok(settings) = read_settings(first)
-    {
-        return print_events(out, events, LevelControlState::new(settings));
+/// The settings of a play and its events.
+fn split_play(records: &[u8]) -> Result<(Settings, &[u8]), RecordRefusal> {
+    match records.split_at_checked(RECORD) {
+        Some((first, events)) if length_ok(records.len()) => Ok((read_settings(first)?, events)),
+        _ => Err(RecordRefusal::RecordWrong),
     }
-    out.write_all(sheet)
+}
+
+/// A play that is refused has no state.
+pub(crate) fn print_play(
+    lines: &mut impl Write,
+    states: &mut impl Write,
+    play: Play,
+) -> io::Result<()> {
+    match split_play(play.records) {
+        Ok((settings, events)) => print_events(lines, states, events, play.pairs, settings),
+        Err(why) => writeln!(lines, "0 {}", u8::from(why)),
+    }
+}
+
+#[cfg(test)]
+mod tests {
+    use super::*;
+    use arrayvec::ArrayVec;
+
+    /// No list can hold what a right program never gives.
+    #[test]
+    fn shows_slots_and_counts_that_are_wrong(rt: HostRuntime) -> io::Result<()> {
+        let x = Action {
+            kind: ActionKind::X,
+            value: 0,
+        };
+        let d = Action {
+            kind: ActionKind::D,
+            value: 99,
+        };
+        let x1 = Action {
+            kind: ActionKind::X,
+            value: 1,
+        };
+        let d0 = Action {
+            kind: ActionKind::D,
+            value: 0,
+        };
+        for (actions, count, wanted) in [
+            ([x, x, x, x, x, x, x], 0, ""),
+            ([d, x1, x, x, x, x, x], 3, " D99 X1 X"),
+            ([d, d, d, d, d, d, d], 7, " D99 D99 D99 D99 D99 D99 D99"),
+            ([d, d, x, x, x, x, x], 1, " D99 free D99"),
+            ([x, x, x, x, x, x, x1], 0, " free X1"),
+            ([x, x, x, x, x, x, d0], 0, " free D0"),
+            ([x, x, x, x, x, x, x], 8, " count 8"),
+        ] {
+            let mut text = ArrayVec::<u8, 100>::new();
+            print_actions(&mut text, &actions, count)?;
+            assert_eq!(rt; text.as_slice(), wanted.as_bytes(), "of {count}");
+        }
+        Ok(())
+    }
 }

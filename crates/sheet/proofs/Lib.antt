@@ -1,2 +1,3 @@
 pub mod SheetLaws
 pub mod LawsHold
+pub mod NumberLaws

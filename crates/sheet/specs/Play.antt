@@ -1,11 +1,13 @@
 -- Sheet: what a call gives, and every byte of the lent output after it.
-use Rattle.std.specs.Prelude.{ℕ, ◌-◌, ◌%◌, min, Bool, false, cond, List, ◌++◌, ltb, leb, eqb, ℤ, pos, negsuc, length, take, drop, Result, Ok, Err}
+use Rattle.std.specs.Prelude.{ℕ, ◌-◌, ◌%◌, min, Bool, false, cond, not, ◌&&◌, ◌||◌, List, [], ◌∷◌, ◌++◌, ltb, leb, eqb, ℤ, pos, negsuc, length, take, drop, Result, Ok, Err}
 use Rattle.std.proofs.lemmas.List.Edits.{sets}
 use Rattle.text.specs.Text.{ascii, digits, most}
-use Rattle.records.specs.Settings.{settings_read}
+use Rattle.records.specs.Bytes.{byte_at, is_set}
+use Rattle.records.specs.Settings.{settings_read, settings_wrong}
 use Rattle.records.specs.Settings.{refusal_number}
 use Rattle.records.specs.declared.refusal.RecordRefusal.{RecordRefusal}
 use Rattle.records.specs.declared.refusal.RecordRefusal.TheVariants.{RecordWrong}
+use Rattle.transitions.specs.Causes.{Tests, no_command_tests, no_turn_tests}
 use Rattle.transitions.specs.declared.settings.Settings.{Settings}
 use Rattle.level_control.specs.State.{new_state}
 use Rattle.sheet.specs.declared.refusal.PlayRefusal.{PlayRefusal}
@@ -36,6 +38,40 @@ written (Err why) = 0
 abbrev pub number_of : PlayRefusal → ℕ
 number_of (refusal.Record why) = refusal_number why
 number_of refusal.TextTooLong = 16
+
+-- its number: 0 where a text is written
+abbrev pub play_number : Result ℕ PlayRefusal → ℕ
+play_number (Ok n) = 0
+play_number (Err why) = number_of why
+
+-- the bytes written
+abbrev pub play_values : Result ℕ PlayRefusal → List ℕ
+play_values (Ok n) = n ∷ []
+play_values (Err why) = []
+
+-- the text that a call asks for, where its settings are accepted
+abbrev pub text_with : Result Settings RecordRefusal → List ℕ → List ℕ
+text_with (Ok settings) events = text_of (new_state settings) events
+text_with (Err why) events = []
+
+abbrev pub text_asked : List ℕ → List ℕ
+text_asked records = text_with (settings_read (take 20 records)) (drop 20 records)
+
+-- Causes: the tests of a call, which are 1 to 4 and 16
+abbrev pub call_tests : List ℕ → List ℕ → Tests
+call_tests records out =
+    let first = take 20 records in
+    record {
+      call = record {
+        record_wrong = not (length_ok (length records)) || settings_wrong first;
+        max_above_254 = ltb 254 (byte_at first 3);
+        min_above_max = ltb (byte_at first 3) (byte_at first 2);
+        lighting_min_0 = is_set first 18 && eqb (byte_at first 2) 0;
+        output_short = ltb (length out) (length (text_asked records));
+      };
+      turn = no_turn_tests;
+      command = no_command_tests;
+    }
 
 -- the bytes written, or minus the number of the refusal: negsuc n is minus n + 1
 abbrev pub result : Result ℕ PlayRefusal → ℤ

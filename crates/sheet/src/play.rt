@@ -1,6 +1,7 @@
 //! A play: settings, then a line for each event.
-ghost use Rattle.std.specs.Prelude.{◌≡◌, ◌≤◌};
-ghost use Rattle.sheet.specs.Play.{length_ok, play_of, returned, written};
+ghost use Rattle.std.specs.Prelude.{◌≡◌, ◌≤◌, [], ◌∷◌, if◌then◌else◌, length, nat_eq};
+ghost use Rattle.transitions.specs.Causes.{first_cause};
+ghost use Rattle.sheet.specs.Play.{call_tests, length_ok, play_number, play_of, play_values, returned, text_asked, written};
 
 use crate::lines::fit;
 use crate::refusal::PlayRefusal;
@@ -25,6 +26,9 @@ pub fn length_ok(length: usize) -> bool
 pub fn play(records: &[u8], out: &mut [u8]) -> Result<usize, PlayRefusal>
     ensures out_after { (result, out.new) ≡ play_of records.now out.old }
     ensures result_bound { written result ≤ 48195 }
+    ensures number { play_number result ≡ first_cause (call_tests records.now out.old) }
+    ensures values { play_values result ≡ (if nat_eq (play_number result) 0
+        then length (text_asked records.now) ∷ [] else []) }
 {
     if !length_ok(records.len()) {
         return Err(RecordRefusal::RecordWrong.into());

@@ -12,7 +12,7 @@ use lib.Dec.{ltb, leb, eqb}
 use Rattle.std.proofs.lemmas.Bool.{and_from, and_parts, or_cases, or_left, or_right}
 use Rattle.std.proofs.lemmas.Option.{same_Some}
 use Rattle.units.specs.Numbers.{apart, held_to}
-use Rattle.units.specs.Units.{tenths, is_zero, exceeds, tenths_apart, scaled_floor, later}
+use Rattle.units.specs.Units.{tenths, is_zero, exceeds, tenths_apart, scaled_floor, later, micros}
 use Rattle.units.specs.declared.Tenths.{Tenths}
 use Rattle.units.specs.declared.Millis.{Millis}
 use Rattle.units.specs.declared.Micros.{Micros}
@@ -39,6 +39,7 @@ use Rattle.transitions.proofs.SearchLaws.{found, missed, either}
 use Rattle.transitions.proofs.TaskLaws as task
 use Rattle.transitions.proofs.TaskLaws.{none_is_not_one, one_is, one}
 use Rattle.std.proofs.lemmas.List.{length-take, take_all}
+use Rattle.transitions.proofs.SceneLaws as scene
 use Rattle.transitions.proofs.ValueLaws as value
 use Rattle.transitions.specs.declared.causes.Refusal.{Refusal}
 use Rattle.transitions.specs.declared.causes.Refusal.TheVariants.{InvalidCommand, ProductTooLarge}
@@ -253,6 +254,14 @@ counter_jumps : (counter target : ℕ) → next_level counter target (tenths 0) 
 unfolding next_level
 counter_jumps counter target = refl
 
+counter_stays : (target : ℕ) (time : Tenths) → next_level target target time ≡ target
+unfolding next_level
+counter_stays target time = go (is_zero time) refl
+  where
+    go : (b : Bool) → is_zero time ≡ b → next_level target target time ≡ target
+    go true e = simp e
+    go false e = simp (e, le-ltb target target (omega arith))
+
 remaining_falls : (remaining period : Millis) → period.0 ≤ remaining.0 → (remaining_after remaining period false).0 + period.0 ≡ remaining.0
 unfolding remaining_after
 remaining_falls remaining period h = omega arith
@@ -317,6 +326,10 @@ module _ (rate q : ℕ) (pos : 1 ≤ rate) where
 move_nearest : (rate q : ℕ) → 1 ≤ rate → apart (rate * (move_period rate).0) 1000000 ≤ apart (rate * q) 1000000
 unfolding move_period
 move_nearest rate q pos = nearest rate q pos
+
+move_period_0 : move_period 0 ≡ micros 0
+unfolding move_period
+move_period_0 = refl
 
 move_period_rounds : (rate : ℕ) → 1 ≤ rate → (rate * (move_period rate).0 ≤ 1000000 + rate / 2) × (1000000 + rate / 2 < rate * ((move_period rate).0 + 1))
 unfolding move_period
@@ -393,6 +406,7 @@ rule_laws = record {
   remaining_ends = remaining_ends;
   counter_moves = counter_moves;
   counter_jumps = counter_jumps;
+  counter_stays = counter_stays;
   waits = waits;
   asks = asks;
   start = task.start;
@@ -402,6 +416,7 @@ rule_laws = record {
   begin_fade_begins = λ c r now f h. task.begin_fade_begins r now c f h;
   move_nearest = move_nearest;
   move_period_rounds = move_period_rounds;
+  move_period_0 = move_period_0;
   move_11 = task.move_11;
   move_up = task.move_up;
   move_down = task.move_down;
@@ -411,6 +426,8 @@ rule_laws = record {
   stored_back_means = task.stored_back_means;
   scene_known = scene_known;
   scene_missing = scene_missing;
+  scene_at = scene.scene_at;
+  scene_nowhere = scene.scene_nowhere;
   same_level_means = value.same_level_means;
   outside = value.outside;
   rate_0 = value.rate_0;
@@ -418,8 +435,5 @@ rule_laws = record {
   held_stays = λ l h. take_all 7 l h;
   request_given = task.request_given;
   wait_given = task.wait_given;
-  turn_answer = value.turn_answer;
-  turn_wake = value.turn_wake;
-  turn_start_up = value.turn_start_up;
   cause = cause;
 }

@@ -1,9 +1,8 @@
--- Levels, rates, targets and turns in the words of docs/RULES.md: proofs for specs/Laws.antt. Assumes nothing.
+-- Levels, rates and targets in the words of docs/RULES.md: proofs for specs/Laws.antt. Assumes nothing.
 use Rattle.std.specs.Prelude.{Some, None}
 use Prim.Native.Nat.{ℕ, ◌+◌, ◌≤◌, ◌<◌}
 use mathlib.Core.Bool.{true, false≢true}
-use mathlib.Core.Path.{◌≡◌, refl, sym, ap, ◌∙◌}
-use mathlib.Core.List.{List, [], ◌∷◌}
+use mathlib.Core.Path.{◌≡◌, refl, sym, ap}
 use mathlib.Core.Logic.{◌↔◌, ◌⊎◌, inl, inr, ⊎_elim}
 use native.Mathlib.Omega.{arith}
 use borrow.Author.Tests.{lt-ltb, ltb-true, eqb-true, eq-eqb}
@@ -12,13 +11,9 @@ use Rattle.std.proofs.lemmas.Bool.{or_cases, or_left, or_right}
 use Rattle.std.proofs.lemmas.Option.{none-some, same_Some}
 use Rattle.transitions.specs.Types.{same_level, is_outside, is_zero_rate}
 use Rattle.transitions.specs.Commands.{step_level}
-use Rattle.transitions.specs.Events.{turn_causes}
 use Rattle.transitions.specs.Types.{Level}
 use Rattle.transitions.specs.declared.types.Mode.TheVariants.{Up, Down}
 use Rattle.transitions.specs.Types.{Rate}
-use Rattle.transitions.specs.declared.events.DeviceAnswer.{DeviceAnswer}
-use Rattle.transitions.specs.declared.events.EventKind.{EventKind}
-use Rattle.transitions.specs.declared.events.EventKind.TheVariants as kind
 
 pub same_level_means : (a b : Level) → (same_level a b ≡ true) ↔ (a ≡ b)
 unfolding same_level
@@ -54,67 +49,3 @@ pub step_down : (level size lo hi : ℕ)
     → (lo + size ≤ level → step_level Down level size lo hi + size ≡ level) × (level ≤ lo + size → step_level Down level size lo hi ≡ lo)
 unfolding step_level
 step_down level size lo hi = (λ g. omega arith, λ g. omega arith)
-
--- Turns
-
--- the four turns of an event
-abbrev TurnIs : EventKind → Type 0
-TurnIs k =
-    (k ≡ kind.StartUp) ⊎ ((a : DeviceAnswer) × (k ≡ kind.Answer a)) ⊎ (k ≡ kind.Wake) ⊎ (turn_causes k ≡ 6 ∷ [])
-
-turn_is : (k : EventKind) → TurnIs k
-turn_is kind.StartUp = inl refl
-turn_is (kind.Answer a) = inr (inl (a, refl))
-turn_is kind.Wake = inr (inr (inl refl))
-turn_is (kind.Command c) = inr (inr (inr refl))
-
-abbrev total : List ℕ → ℕ
-total [] = 0
-total (n ∷ l) = n + total l
-
-module _ (k : EventKind) where
-  abbrev causes : EventKind → List ℕ
-  causes j = turn_causes j
-
-  -- other causes are of another event
-  another : {A : Type 0} (l r : List ℕ) → causes k ≡ l → causes k ≡ r → (total l ≡ total r → ⊥) → A
-  another l r e f ne = absurd (ne (ap total (sym e ∙ f)))
-
-  pub turn_answer : (causes k ≡ 7 ∷ []) ↔ ((a : DeviceAnswer) × (k ≡ kind.Answer a))
-  turn_answer = (
-    λ e. ⊎_elim
-        (λ s. another (7 ∷ []) (6 ∷ 9 ∷ []) e (ap causes s) (λ z. omega arith))
-        (⊎_elim
-        (λ a. a)
-        (⊎_elim
-        (λ w. another (7 ∷ []) (6 ∷ 8 ∷ []) e (ap causes w) (λ z. omega arith))
-        (λ o. another (7 ∷ []) (6 ∷ []) e o (λ z. omega arith))))
-        (turn_is k),
-    λ h. ap causes h.1,
-  )
-
-  pub turn_wake : (causes k ≡ 6 ∷ 8 ∷ []) ↔ (k ≡ kind.Wake)
-  turn_wake = (
-    λ e. ⊎_elim
-        (λ s. another (6 ∷ 8 ∷ []) (6 ∷ 9 ∷ []) e (ap causes s) (λ z. omega arith))
-        (⊎_elim
-        (λ a. another (6 ∷ 8 ∷ []) (7 ∷ []) e (ap causes a.1) (λ z. omega arith))
-        (⊎_elim
-        (λ w. w)
-        (λ o. another (6 ∷ 8 ∷ []) (6 ∷ []) e o (λ z. omega arith))))
-        (turn_is k),
-    λ h. ap causes h,
-  )
-
-  pub turn_start_up : (causes k ≡ 6 ∷ 9 ∷ []) ↔ (k ≡ kind.StartUp)
-  turn_start_up = (
-    λ e. ⊎_elim
-        (λ s. s)
-        (⊎_elim
-        (λ a. another (6 ∷ 9 ∷ []) (7 ∷ []) e (ap causes a.1) (λ z. omega arith))
-        (⊎_elim
-        (λ w. another (6 ∷ 9 ∷ []) (6 ∷ 8 ∷ []) e (ap causes w) (λ z. omega arith))
-        (λ o. another (6 ∷ 9 ∷ []) (6 ∷ []) e o (λ z. omega arith))))
-        (turn_is k),
-    λ h. ap causes h,
-  )

@@ -1,5 +1,5 @@
 -- Targets, Steps and the rate of Moves.
-use Rattle.std.specs.Prelude.{ℕ, ◌-◌, min, max, Bool, cond, ltb, leb, eqb, Option, Some, None, Result, Ok, Err, is_err}
+use Rattle.std.specs.Prelude.{ℕ, ◌-◌, min, max, Bool, cond, ltb, leb, eqb, List, [], ◌∷◌, Option, Some, None, Result, Ok, Err, is_err}
 use Rattle.units.specs.Numbers.{held_to, sum_to255}
 use Rattle.units.specs.Units.{tenths, scaled_floor}
 use Rattle.transitions.specs.Causes.{refusal_number}
@@ -39,6 +39,11 @@ abbrev pub step_time_number : Result Tenths Refusal → ℕ
 step_time_number (Ok t) = 0
 step_time_number (Err cause) = refusal_number cause
 
+-- the tenths that it takes
+abbrev pub step_time_values : Result Tenths Refusal → List ℕ
+step_time_values (Ok t) = t.0 ∷ []
+step_time_values (Err cause) = []
+
 -- 12 is due
 abbrev pub is_overflow : Result Tenths Refusal → Bool
 is_overflow t = is_err t
@@ -52,6 +57,11 @@ rate_in_force given default fastest =
 abbrev pub move_rate_number : Result ℕ Refusal → ℕ
 move_rate_number (Ok r) = 0
 move_rate_number (Err cause) = refusal_number cause
+
+-- the rate
+abbrev pub move_rate_values : Result ℕ Refusal → List ℕ
+move_rate_values (Ok r) = r ∷ []
+move_rate_values (Err cause) = []
 
 -- 10 is due
 abbrev pub is_invalid : Result ℕ Refusal → Bool

@@ -6,17 +6,9 @@ use Rattle.transitions.specs.declared.actions.ActionKind.{ActionKind}
 use Rattle.transitions.specs.declared.actions.ActionKind.TheVariants.{C}
 use Rattle.transitions.specs.declared.events.Event.{Event}
 use Rattle.transitions.specs.declared.events.EventKind.{EventKind}
-use Rattle.transitions.specs.declared.events.EventKind.TheVariants as kind
 
 abbrev pub event : Micros → Bool → EventKind → Event
 event at on kind = record { moment = record { at = at; on_off = on }; kind = kind }
-
--- which of the causes 6 to 9 may meet an event
-abbrev pub turn_causes : EventKind → List ℕ
-turn_causes kind.StartUp = 6 ∷ 9 ∷ []
-turn_causes (kind.Answer a) = 7 ∷ []
-turn_causes kind.Wake = 6 ∷ 8 ∷ []
-turn_causes (kind.Command c) = 6 ∷ []
 
 -- Lists of actions.
 

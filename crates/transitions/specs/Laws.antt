@@ -1,14 +1,14 @@
 -- The rules in the words of docs/RULES.md: laws for every value, by which the definitions of this folder can be believed. Where a law
 -- speaks of a part of a definition by its name (a bit, a row of the table, a pair that decides), that part is to be read beside that page.
-use Rattle.std.specs.Prelude.{ℕ, ◌/◌, ◌+◌, ◌-◌, ◌*◌, ◌≤◌, ◌<◌, Bool, true, false, ◌≡◌, ◌↔◌, ◌⊎◌, List, [], ◌∷◌, length, Option, Some, None, Ok, is_some}
+use Rattle.std.specs.Prelude.{ℕ, ◌/◌, ◌+◌, ◌-◌, ◌*◌, ◌≤◌, ◌<◌, Bool, true, false, ◌≡◌, ◌↔◌, ◌⊎◌, List, [], ◌∷◌, length, slice_get, Option, Some, None, Ok, is_some}
 use Rattle.units.specs.Numbers.{apart}
-use Rattle.units.specs.Units.{tenths}
+use Rattle.units.specs.Units.{tenths, micros}
 use Rattle.units.specs.declared.Tenths.{Tenths}
 use Rattle.units.specs.declared.Millis.{Millis}
 use Rattle.units.specs.declared.Micros.{Micros}
 use Rattle.transitions.specs.Search.{NoneOf, First}
 use Rattle.transitions.specs.Types.{executes_if_off, rate_or, same_level, is_outside, is_zero_rate}
-use Rattle.transitions.specs.Events.{act, act_coupled, turn_causes}
+use Rattle.transitions.specs.Events.{act, act_coupled}
 use Rattle.transitions.specs.RemainingTime.{remaining_time_due}
 use Rattle.transitions.specs.Options.{should_continue}
 use Rattle.transitions.specs.CurrentLevel.{current_level_due}
@@ -29,9 +29,6 @@ use Rattle.transitions.specs.Actions.{held}
 use Rattle.transitions.specs.declared.actions.Action.{Action}
 use Rattle.transitions.specs.Causes.{Tests}
 use Rattle.transitions.specs.declared.actions.ActionKind.TheVariants.{C}
-use Rattle.transitions.specs.declared.events.DeviceAnswer.{DeviceAnswer}
-use Rattle.transitions.specs.declared.events.EventKind.{EventKind}
-use Rattle.transitions.specs.declared.events.EventKind.TheVariants as kind
 use Rattle.transitions.specs.declared.tasks.Begin.TheVariants.{Reached, Starts}
 use Rattle.transitions.specs.declared.tasks.Fade.{Fade}
 use Rattle.transitions.specs.declared.tasks.FadeRequest.{FadeRequest}
@@ -54,6 +51,12 @@ pub record BeginsAt (c : ℕ) (r : FadeRequest) (now : Micros) (f : Fade) : Type
   pub restores : (before : ℕ) → (f.after ≡ Some before) ↔ ((r.restores ≡ true) × (before ≡ c))
   -- its request is open since now
   pub asked_now : f.phase ≡ Asked now
+
+-- Scenes: a place below both lengths where the id is 0 and the value is v, at most 255
+pub record DecidesAt (ids values : List ℕ) (i v : ℕ) : Type 0 where
+  pub id_0 : slice_get ids i ≡ Some 0
+  pub its_value : slice_get values i ≡ Some v
+  pub known : v ≤ 255
 
 pub record Laws : Type 0 where
   -- Remaining time: it is reported exactly if a non-zero time becomes 0, or 0 becomes more than 10, or it changes by more than 10 at the start of a fade
@@ -115,6 +118,8 @@ pub record Laws : Type 0 where
   pub counter_moves : (counter target : ℕ) (time : Tenths) → 1 ≤ time.0 → (counter ≡ target → ⊥)
       → (apart counter (next_level counter target time) ≡ 1) × (apart (next_level counter target time) target + 1 ≡ apart counter target)
   pub counter_jumps : (counter target : ℕ) → next_level counter target (tenths 0) ≡ target
+  -- one that is at its target stays there, with any time
+  pub counter_stays : (target : ℕ) (time : Tenths) → next_level target target time ≡ target
   -- a wait: until the request's time + the period, whose sum 64 bits hold, exactly if the period is at least the answer's time less the request's; else no W
   pub waits : (asked answered period : Micros) (until : ℕ) → asked.0 + period.0 ≤ 18446744073709551615
       → (fade.waits (wait_or_ask asked answered period) ≡ until ∷ []) ↔ ((answered.0 - asked.0 ≤ period.0) × (until ≡ asked.0 + period.0))
@@ -135,6 +140,8 @@ pub record Laws : Type 0 where
   -- the period is (1,000,000 + rate ÷ 2) ÷ rate, both rounded down, so of two that are as near the larger
   pub move_period_rounds : (rate : ℕ) → 1 ≤ rate
       → (rate * (move_period rate).0 ≤ 1000000 + rate / 2) × (1000000 + rate / 2 < rate * ((move_period rate).0 + 1))
+  -- at rate 0, which is refused before, it is 0
+  pub move_period_0 : move_period 0 ≡ micros 0
   -- E11 exactly from a missing level
   pub move_11 : (level : Level) (mode : Mode) → (move_step_number (next_move level mode) ≡ 11) ↔ (level ≡ None)
   -- it asks from the stored level, by one, up or down; without a request it ends, exactly if it would pass 255 or 0
@@ -153,6 +160,11 @@ pub record Laws : Type 0 where
   pub scene_known : (ids values : List ℕ) (v : ℕ)
       → (scene_level ids values ≡ Some v) ↔ ((p : Pair) × First decides (pairs ids values) p × (p.value ≡ v))
   pub scene_missing : (ids values : List ℕ) → (scene_level ids values ≡ None) ↔ NoneOf decides (pairs ids values)
+  -- the same by places: the value of the first place that decides, exactly; missing exactly if no place does
+  pub scene_at : (ids values : List ℕ) (v : ℕ)
+      → (scene_level ids values ≡ Some v)
+      ↔ ((i : ℕ) × DecidesAt ids values i v × ((j w : ℕ) → j < i → DecidesAt ids values j w → ⊥))
+  pub scene_nowhere : (ids values : List ℕ) → (scene_level ids values ≡ None) ↔ ((i v : ℕ) → DecidesAt ids values i v → ⊥)
   -- Words: a level has changed exactly if it is another; only a known level lies outside MIN..MAX, and only a known rate is 0
   pub same_level_means : (a b : Level) → (same_level a b ≡ true) ↔ (a ≡ b)
   pub outside : (level : Level) (lo hi : ℕ) → (is_outside level lo hi ≡ true) ↔ ((c : ℕ) × (level ≡ Some c) × ((c < lo) ⊎ (hi < c)))
@@ -163,11 +175,7 @@ pub record Laws : Type 0 where
   -- the request that is open is given exactly where one is, and the wait that is over exactly where one is
   pub request_given : (t : Task) → is_some (open_request t) ≡ task_open t
   pub wait_given : (t : Task) (now : Micros) → is_some (due_wait t now) ≡ task_due t now
-  -- Causes: of 6 to 9, an answer alone may meet 7 and not 6; 8 is a wake's alone, 9 start-up's
-  pub turn_answer : (k : EventKind) → (turn_causes k ≡ 7 ∷ []) ↔ ((a : DeviceAnswer) × (k ≡ kind.Answer a))
-  pub turn_wake : (k : EventKind) → (turn_causes k ≡ 6 ∷ 8 ∷ []) ↔ (k ≡ kind.Wake)
-  pub turn_start_up : (k : EventKind) → (turn_causes k ≡ 6 ∷ 9 ∷ []) ↔ (k ≡ kind.StartUp)
-  -- a number is that of the first row that applies, exactly; 0 without such a row exactly if none applies
+  -- Causes: a number is that of the first row that applies, exactly; 0 without such a row exactly if none applies
   pub cause : (t : Tests) (n : ℕ)
       → (first_cause t ≡ n)
       ↔ (((r : Row) × First (λ r. r.applies) (rows t) r × (r.number ≡ n)) ⊎ (NoneOf (λ r. r.applies) (rows t) × (n ≡ 0)))

@@ -4,7 +4,7 @@ use Rattle.units.specs.Numbers.{apart}
 use Rattle.units.specs.Units.{tenths_to_millis, millis_to_micros, at_most}
 use Rattle.units.specs.declared.Millis.{Millis}
 use Rattle.units.specs.declared.Micros.{Micros}
-use Rattle.transitions.specs.Types.{is_level}
+use Rattle.transitions.specs.Types.{is_level, level_values}
 use Rattle.transitions.specs.Fade.{fade_period, is_transition_start, remaining_after, next_level, wait_or_ask}
 use Rattle.transitions.specs.Types.{Level}
 use Rattle.transitions.specs.declared.types.Mode.{Mode}
@@ -51,6 +51,49 @@ open_request (task.Fade f) = open_in f.phase (request.Fade f)
 open_request (task.Move m) = open_in m.phase (request.Move m)
 open_request (task.OnReaction o) = Some (request.OnReaction o)
 
+-- 7: no request is open
+abbrev pub request_number : Option Request → ℕ
+request_number (Some r) = 0
+request_number None = 7
+
+abbrev pub flag_number : Bool → ℕ
+flag_number b = cond b 1 0
+
+abbrev pub mode_number : Mode → ℕ
+mode_number Up = 0
+mode_number Down = 1
+
+-- what a fade and a move keep, but for the phase: of a fade the target, the level that was asked for last, T, the unrounded remaining time, the period, whether it
+-- is with on/off, whether it is a scene's, the level that it puts back, if any; of a move whether it is with on/off, the mode, 0 up and 1 down, and the period
+
+abbrev pub fade_values : Fade → List ℕ
+fade_values f =
+    f.target ∷ f.counter ∷ f.transition_time.0 ∷ f.remaining.0 ∷ f.period.0 ∷ flag_number f.with_on_off ∷ flag_number f.scene_apply ∷ level_values f.after
+
+abbrev pub course_values : MoveCourse → List ℕ
+course_values m = flag_number m.with_on_off ∷ mode_number m.mode ∷ m.period.0 ∷ []
+
+-- since when the request is open, of a move the level that it asks for, and what the task keeps; of the reaction to on the level before, if it is known
+abbrev pub request_values : Option Request → List ℕ
+request_values (Some request.StartUp) = []
+request_values (Some (request.Fade f since)) = since.0 ∷ fade_values f
+request_values (Some (request.Move m since)) = since.0 ∷ m.asked ∷ course_values m.course
+request_values (Some (request.OnReaction o)) = level_values o.before
+request_values None = []
+
+-- the same, read from the task itself
+
+abbrev pub since_in : Phase → List ℕ → List ℕ
+since_in (Asked since) values = since.0 ∷ values
+since_in (Waiting until) values = []
+
+abbrev pub asked_since : Task → List ℕ
+asked_since task.Rest = []
+asked_since task.StartUp = []
+asked_since (task.Fade f) = since_in f.phase (fade_values f)
+asked_since (task.Move m) = since_in m.phase (m.asked ∷ course_values m.course)
+asked_since (task.OnReaction o) = level_values o.before
+
 -- a wait is over: a wake at its time or later is accepted
 
 abbrev pub phase_due : Phase → Micros → Bool
@@ -75,6 +118,25 @@ due_wait task.StartUp now = None
 due_wait (task.Fade f) now = due_in f.phase now (wait.Fade f)
 due_wait (task.Move m) now = due_in m.phase now (wait.Move m.course)
 due_wait (task.OnReaction o) now = None
+
+-- 8: nothing waits, or not so long
+abbrev pub wait_number : Option Wait → ℕ
+wait_number (Some w) = 0
+wait_number None = 8
+
+-- what the task keeps that waited
+abbrev pub wait_values : Option Wait → List ℕ
+wait_values (Some (wait.Fade f)) = fade_values f
+wait_values (Some (wait.Move course)) = course_values course
+wait_values None = []
+
+-- the same, read from the task itself
+abbrev pub waiting_task : Task → List ℕ
+waiting_task task.Rest = []
+waiting_task task.StartUp = []
+waiting_task (task.Fade f) = fade_values f
+waiting_task (task.Move m) = course_values m.course
+waiting_task (task.OnReaction o) = []
 
 -- Fades.
 
@@ -165,6 +227,11 @@ abbrev pub move_step_requests : MoveStep → List ℕ
 move_step_requests step.Lost = []
 move_step_requests step.Ends = []
 move_step_requests (step.Asks level) = level ∷ []
+
+-- the level that lies one up or down of another, within 0 to 255
+abbrev pub one_on : Mode → ℕ → List ℕ
+one_on Up level = cond (eqb level 255) [] ((level + 1) ∷ [])
+one_on Down level = cond (eqb level 0) [] ((level - 1) ∷ [])
 
 -- the answer to a request for MIN or for MAX is the end, in either direction
 abbrev pub is_move_end : ℕ → ℕ → ℕ → Bool

@@ -1,5 +1,5 @@
 -- Words: a level, a time and a rate, and what is asked of them. A missing one is None.
-use Rattle.std.specs.Prelude.{ℕ, ◌%◌, Bool, false, ◌&&◌, ◌||◌, eqb, leb, ltb, Option, Some, None, is_none}
+use Rattle.std.specs.Prelude.{ℕ, ◌%◌, Bool, false, ◌&&◌, ◌||◌, eqb, leb, ltb, List, [], ◌∷◌, Option, Some, None, is_none}
 use Rattle.units.specs.declared.Tenths.{Tenths}
 use Rattle.transitions.specs.declared.types.LevelRange.{LevelRange}
 use Rattle.transitions.specs.declared.types.OptionsBitmap.{OptionsBitmap}
@@ -15,6 +15,16 @@ Rate = Option ℕ
 
 abbrev pub is_missing : Level → Bool
 is_missing l = is_none l
+
+-- the level, where it is known
+abbrev pub level_values : Level → List ℕ
+level_values (Some l) = l ∷ []
+level_values None = []
+
+-- the tenths of a time, where it is known
+abbrev pub time_values : Time → List ℕ
+time_values (Some t) = t.0 ∷ []
+time_values None = []
 
 -- whether a level is known and is that one
 abbrev pub is_level : Level → ℕ → Bool

@@ -1,8 +1,9 @@
 //! Targets, steps and rates of the commands.
 //! Derived from level_control.rs of project-chip/rs-matter 43f61585a4 (see NOTICE), and changed.
-ghost use Rattle.std.specs.Prelude.{◌≡◌, IfErr};
+ghost use Rattle.std.specs.Prelude.{◌≡◌, ◌*◌, ◌/◌, ◌&&◌, not, [], ◌∷◌, IfErr, if◌then◌else◌, nat_eq, nat_lt, unwrap_or};
+ghost use Rattle.units.specs.Units.{tenths};
 ghost use Rattle.transitions.specs.declared.causes.Refusal.TheVariants.{InvalidCommand, ProductTooLarge};
-ghost use Rattle.transitions.specs.Commands.{consults_options, rate_in_force, step_level, step_time, target_level};
+ghost use Rattle.transitions.specs.Commands.{consults_options, move_rate_number, move_rate_values, rate_in_force, step_level, step_time, step_time_number, step_time_values, target_level};
 
 use crate::causes::Refusal;
 use crate::types::{LevelRange, Mode, Rate, Time};
@@ -44,6 +45,11 @@ pub fn step_level(mode: Mode, level: u8, step_size: u8, range: LevelRange) -> u8
 pub fn step_time(given: Time, actual_size: u8, step_size: u8) -> Result<Tenths, Refusal>
     ensures value { result ≡ step_time given actual_size step_size }
     ensures refused { IfErr result (λ cause. cause ≡ ProductTooLarge) }
+    ensures number { let time = unwrap_or given (tenths 0) in step_time_number result
+        ≡ (if not (nat_eq actual_size step_size) && nat_lt 65535 (time.0 * actual_size) then 12 else 0) }
+    ensures values { let time = unwrap_or given (tenths 0) in step_time_values result
+        ≡ (if nat_eq actual_size step_size then time.0 ∷ []
+        else if nat_lt 65535 (time.0 * actual_size) then [] else time.0 * actual_size / step_size ∷ []) }
 {
     match given {
         Some(time) if actual_size != step_size => time
@@ -58,6 +64,10 @@ pub fn step_time(given: Time, actual_size: u8, step_size: u8) -> Result<Tenths, 
 pub fn rate_in_force(given: Rate, default_move_rate: Rate, fastest_rate: u8) -> Result<u8, Refusal>
     ensures value { result ≡ rate_in_force given default_move_rate fastest_rate }
     ensures refused { IfErr result (λ cause. cause ≡ InvalidCommand) }
+    ensures number { let rate = unwrap_or given (unwrap_or default_move_rate fastest_rate) in
+        move_rate_number result ≡ (if nat_eq rate 0 then 10 else 0) }
+    ensures values { let rate = unwrap_or given (unwrap_or default_move_rate fastest_rate) in
+        move_rate_values result ≡ (if nat_eq rate 0 then [] else rate ∷ []) }
 {
     match given.or(default_move_rate).unwrap_or(fastest_rate) {
         0 => Err(Refusal::InvalidCommand),

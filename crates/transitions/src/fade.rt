@@ -1,7 +1,7 @@
 //! The rules of a fade (the source's move_to_level_transition).
 //! Derived from level_control.rs of project-chip/rs-matter 43f61585a4 (see NOTICE), and changed.
-ghost use Rattle.std.specs.Prelude.{◌≡◌};
-ghost use Rattle.transitions.specs.Fade.{fade_period, is_transition_start, next_level, remaining_after, wait_or_ask};
+ghost use Rattle.std.specs.Prelude.{◌≡◌, ◌+◌, ◌-◌, min, [], ◌∷◌, if◌then◌else◌, nat_le};
+ghost use Rattle.transitions.specs.Fade.{fade_period, is_transition_start, next_level, remaining_after, wait_or_ask, waits};
 
 use std::cmp::Ordering;
 use units::{Micros, Millis, Tenths};
@@ -51,7 +51,9 @@ pub fn next_level(counter: u8, target: u8, transition_time: Tenths) -> u8
 /// Until when the rest of the period is waited for; None where the device left none of it.
 #[tactic(auto, unfolding(crate::specs::Fade::wait_or_ask))]
 pub fn wait_or_ask(asked: Micros, answered: Micros, period: Micros) -> Option<Micros>
-    ensures { result ≡ wait_or_ask asked answered period }
+    ensures value { result ≡ wait_or_ask asked answered period }
+    ensures values { waits result
+        ≡ (if nat_le (answered.0 - asked.0) period.0 then min u64.MAX (asked.0 + period.0) ∷ [] else []) }
 {
     let latency = answered.saturating_sub(asked);
     (latency <= period).then_some(asked.saturating_add(period))

@@ -1,7 +1,9 @@
 //! What a running task keeps, and how it begins and goes on (the source's Task, its timers and its loops).
 //! Derived from level_control.rs of project-chip/rs-matter 43f61585a4 (see NOTICE), and changed.
-ghost use Rattle.std.specs.Prelude.{◌≡◌};
-ghost use Rattle.transitions.specs.Tasks.{at_limit, begin_fade, due_wait, fade_asking, fade_from, fade_last, fade_left, fade_next, fade_start, fade_waiting, is_move_end, level_to_restore, move_asking, move_waiting, next_move, open_request};
+ghost use Rattle.std.specs.Prelude.{◌≡◌, ◌+◌, ◌-◌, ◌*◌, min, [], ◌∷◌, if◌then◌else◌, is_some, nat_eq, nat_le, nat_lt, unwrap_or};
+ghost use Rattle.transitions.specs.Fade.{waits};
+ghost use Rattle.transitions.specs.Tasks.{asked_since, at_limit, begin_fade, begin_number, begin_requests, due_wait, fade_asking, fade_from, fade_last, fade_left, fade_next, fade_start, fade_waiting, is_move_end, level_to_restore, move_asking, move_step_number, move_step_requests, move_waiting, next_move, one_on, open_request, request_number, request_values, task_due, task_open, wait_number, wait_values, waiting_task};
+ghost use Rattle.transitions.specs.Types.{level_values};
 
 use crate::fade::{fade_period, is_transition_start, next_level, remaining_after, wait_or_ask};
 use crate::types::{Level, LevelRange, Mode};
@@ -109,7 +111,9 @@ pub enum MoveStep {
 impl Task {
     /// The request to the device that is open.
     pub fn open_request(self) -> Option<Request>
-        ensures { result ≡ open_request self }
+        ensures value { result ≡ open_request self }
+        ensures number { request_number result ≡ (if task_open self then 0 else 7) }
+        ensures values { request_values result ≡ asked_since self }
     {
         match self {
             Task::StartUp => Some(Request::StartUp),
@@ -126,7 +130,9 @@ impl Task {
 
     /// The wait that is over by now.
     pub fn due_wait(self, now: Micros) -> Option<Wait>
-        ensures { result ≡ due_wait self now }
+        ensures value { result ≡ due_wait self now }
+        ensures number { wait_number result ≡ (if task_due self now then 0 else 8) }
+        ensures values { wait_values result ≡ (if task_due self now then waiting_task self else []) }
     {
         match self {
             Task::Fade(fade) if let Phase::Waiting { until } = fade.phase && until <= now => {
@@ -163,7 +169,10 @@ impl Fade {
 
     /// Until when the next request is waited for after that answer; None where it is made at once.
     pub fn next(self, asked: Micros, answered: Micros) -> Option<Micros>
-        ensures { result ≡ fade_next self asked answered }
+        ensures value { result ≡ fade_next self asked answered }
+        ensures values { waits result
+            ≡ (if nat_le (answered.0 - asked.0) (1000 * self.period.0)
+            then min u64.MAX (asked.0 + 1000 * self.period.0) ∷ [] else []) }
     {
         wait_or_ask(asked, answered, self.period.to_micros())
     }
@@ -220,7 +229,8 @@ impl Move {
 /// Which level is put back when a fade has ended: none where an on level is known by then.
 #[tactic(auto, unfolding(crate::specs::Tasks::level_to_restore))]
 pub fn level_to_restore(after: Option<u8>, on_level: Level) -> Level
-    ensures { result ≡ level_to_restore after on_level }
+    ensures value { result ≡ level_to_restore after on_level }
+    ensures values { level_values result ≡ (if is_some on_level then [] else level_values after) }
 {
     match on_level {
         Some(_) => None,
@@ -247,9 +257,14 @@ pub fn fade_from(level: u8, request: FadeRequest, now: Micros) -> Fade
     }
 }
 
-#[tactic(auto, unfolding(crate::specs::Tasks::begin_fade))]
+#[tactic(auto, unfolding(crate::specs::Tasks::begin_fade, crate::specs::Tasks::fade_from, crate::specs::Fade::next_level))]
 pub fn begin_fade(level: Level, request: FadeRequest, now: Micros) -> Begin
-    ensures { result ≡ begin_fade level request now }
+    ensures value { result ≡ begin_fade level request now }
+    ensures number { begin_number result ≡ (if is_some level then 0 else 11) }
+    ensures values { let from = unwrap_or level request.target in begin_requests result
+        ≡ (if nat_eq from request.target then []
+        else if nat_eq request.transition_time.0 0 then request.target ∷ []
+        else if nat_lt from request.target then (from + 1) ∷ [] else (from - 1) ∷ []) }
 {
     match level {
         None => Begin::Lost,
@@ -261,7 +276,10 @@ pub fn begin_fade(level: Level, request: FadeRequest, now: Micros) -> Begin
 /// The level that a move asks for from the stored one.
 #[tactic(auto, unfolding(crate::specs::Tasks::next_move))]
 pub fn next_move(level: Level, mode: Mode) -> MoveStep
-    ensures { result ≡ next_move level mode }
+    ensures value { result ≡ next_move level mode }
+    ensures number { move_step_number result ≡ (if is_some level then 0 else 11) }
+    ensures values { move_step_requests result
+        ≡ (if is_some level then one_on mode (unwrap_or level 0) else []) }
 {
     let Some(from) = level else {
         return MoveStep::Lost;

@@ -1,7 +1,7 @@
 -- Units: laws of the conversions, for every value, in the words of docs/RULES.md.
-use Rattle.std.specs.Prelude.{ℕ, ◌+◌, ◌*◌, ◌≤◌, ◌<◌, ◌≡◌, ◌↔◌, Some}
+use Rattle.std.specs.Prelude.{ℕ, ◌+◌, ◌*◌, ◌%◌, ◌≤◌, ◌<◌, ◌≡◌, ◌↔◌, Some}
 use Rattle.units.specs.Numbers.{apart}
-use Rattle.units.specs.Units.{tenths_up, tenths_down, tenths_to_millis, later, elapsed, millis_to_micros, scaled_floor, scaled_number}
+use Rattle.units.specs.Units.{tenths_up, tenths_down, tenths_to_millis, later, elapsed, millis_to_micros, millis_divided, scaled_floor, scaled_number}
 use Rattle.units.specs.declared.Tenths.{Tenths}
 use Rattle.units.specs.declared.Millis.{Millis}
 use Rattle.units.specs.declared.Micros.{Micros}
@@ -14,6 +14,8 @@ pub record Laws : Type 0 where
   -- rounded up: the fewest tenths that are no less than the milliseconds, where 16 bits hold them
   pub up_covers : (ms : Millis) → ms.0 ≤ 6553500 → ms.0 ≤ 100 * (tenths_up ms).0
   pub up_is_least : (ms : Millis) → 100 * (tenths_up ms).0 < ms.0 + 100
+  -- above that too it is the low 16 bits of their number
+  pub up_low_bits : (ms : Millis) (n : ℕ) → ms.0 ≤ 100 * n → 100 * n < ms.0 + 100 → (tenths_up ms).0 ≡ n % 65536
   -- rounded down: the most tenths that are no more than the milliseconds, and none above 65,535
   pub down_is_covered : (ms : Millis) → 100 * (tenths_down ms).0 ≤ ms.0
   pub down_is_most : (ms : Millis) → ms.0 < 6553600 → ms.0 < 100 * (tenths_down ms).0 + 100
@@ -21,6 +23,8 @@ pub record Laws : Type 0 where
   -- tenths to milliseconds and back lose nothing, whichever way is rounded
   pub up_returns : (t : Tenths) → t.0 ≤ 65535 → tenths_up (tenths_to_millis t) ≡ t
   pub down_returns : (t : Tenths) → t.0 ≤ 65535 → tenths_down (tenths_to_millis t) ≡ t
+  -- a division by 0 gives 0
+  pub divided_by_0 : (ms : Millis) → (millis_divided ms 0).0 ≡ 0
   -- a span added to a reading has passed at the sum, where 64 bits hold it; it lies at or after the reading
   pub later_elapsed : (at span : Micros) → at.0 + span.0 ≤ 18446744073709551615 → elapsed at (later at span) ≡ span
   pub later_is_later : (at span : Micros) → at.0 ≤ 18446744073709551615 → at.0 ≤ (later at span).0

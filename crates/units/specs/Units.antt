@@ -1,5 +1,5 @@
 -- Units: tenths, milliseconds and microseconds, and what is computed of them.
-use Rattle.std.specs.Prelude.{ℕ, ◌+◌, ◌-◌, ◌*◌, ◌/◌, ◌%◌, min, Bool, cond, ltb, leb, eqb, Option, Some, None}
+use Rattle.std.specs.Prelude.{ℕ, ◌+◌, ◌-◌, ◌*◌, ◌/◌, ◌%◌, min, Bool, cond, ltb, leb, eqb, List, [], ◌∷◌, Option, Some, None}
 use Rattle.units.specs.Numbers.{apart, div_ceil}
 use Rattle.units.specs.declared.Tenths.{Tenths}
 use Rattle.units.specs.declared.Millis.{Millis}
@@ -52,6 +52,11 @@ scaled_floor t factor divisor = cond (ltb 65535 (t.0 * factor)) None (Some (tent
 abbrev pub scaled_number : Option Tenths → ℕ
 scaled_number (Some t) = 0
 scaled_number None = 12
+
+-- the tenths that are given
+abbrev pub scaled_values : Option Tenths → List ℕ
+scaled_values (Some t) = t.0 ∷ []
+scaled_values None = []
 
 abbrev pub millis_same : Millis → Millis → Bool
 millis_same a b = eqb a.0 b.0

@@ -2,9 +2,9 @@
 //! given where milliseconds are meant; a conversion's name says how it rounds. Units are computed by these functions alone.
 #![tactic(auto)]
 
-ghost use Rattle.std.specs.Prelude.{◌≡◌};
+ghost use Rattle.std.specs.Prelude.{◌≡◌, ◌*◌, ◌/◌, [], ◌∷◌, if◌then◌else◌, nat_lt};
 ghost use Rattle.units.specs.Laws.{Laws};
-ghost use Rattle.units.specs.Units.{tenths_apart, scaled_floor, tenths_to_millis, millis_less, millis_divided, tenths_up, tenths_down, millis_to_micros, later, elapsed};
+ghost use Rattle.units.specs.Units.{tenths_apart, scaled_floor, scaled_number, scaled_values, tenths_to_millis, millis_less, millis_divided, tenths_up, tenths_down, millis_to_micros, later, elapsed};
 
 /// Tenths of a second, as the attributes hold them.
 #[derive(Clone, Copy, Debug, PartialEq, Eq, PartialOrd, Ord)]
@@ -29,7 +29,10 @@ impl Tenths {
     /// where 16 bits do not hold the product. Over 0 it gives 0.
     #[tactic(auto, unfolding(crate::specs::Units::scaled_floor))]
     pub fn mul_div_floor(self, factor: u8, divisor: u8) -> Option<Tenths>
-        ensures { result ≡ scaled_floor self factor divisor }
+        ensures value { result ≡ scaled_floor self factor divisor }
+        ensures number { scaled_number result ≡ (if nat_lt 65535 (self.0 * factor) then 12 else 0) }
+        ensures values { scaled_values result
+            ≡ (if nat_lt 65535 (self.0 * factor) then [] else self.0 * factor / divisor ∷ []) }
     {
         let product = self.0.checked_mul(u16::from(factor))?;
         let quotient = product.checked_div(u16::from(divisor)).unwrap_or(0);

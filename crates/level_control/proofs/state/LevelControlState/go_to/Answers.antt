@@ -14,6 +14,6 @@ returns-in-Reached c =
       c.push_coupling.ensures,
       c.update_coupled_on_off-coupling.ensures,
       coupled_then_missing c.args.actions.now _ c.args.request.restores _ c.args.self.now.attributes.on_level _ (omega arith) c.is_none.ensures,
-      sym c.begin_fade.ensures ∙ c.in-Reached.is,
+      sym c.begin_fade.ensures.value ∙ c.in-Reached.is,
     )
     refl
