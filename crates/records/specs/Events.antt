@@ -1,9 +1,11 @@
 -- Records, events: what a record says, by its kind.
-use Rattle.std.specs.Prelude.{ℕ, Bool, if◌then◌else◌, ◌&&◌, List, [], ◌∷◌, nat_le, nat_eq, get_or, Option, Some, None}
+use Rattle.std.specs.Prelude.{ℕ, Bool, if◌then◌else◌, ◌&&◌, List, [], ◌∷◌, ◌++◌, nat_le, nat_eq, get_or, Option, Some, None}
 use Rattle.std.specs.Bool.{then_some}
 use Rattle.std.specs.Option.{option_map}
 use Rattle.units.specs.Units.{millis}
 use Rattle.transitions.specs.Events.{event}
+use Rattle.transitions.specs.Tasks.{mode_number}
+use Rattle.transitions.specs.Types.{level_values, time_values}
 use Rattle.transitions.specs.declared.events.Command.{Command}
 use Rattle.transitions.specs.declared.events.Command.TheVariants as command
 use Rattle.transitions.specs.declared.events.DeviceAnswer.{DeviceAnswer}
@@ -14,8 +16,8 @@ use Rattle.transitions.specs.declared.events.EventKind.TheVariants as kind
 use Rattle.transitions.specs.declared.options.CommandOptions.{CommandOptions}
 use Rattle.transitions.specs.declared.types.Mode.{Mode}
 use Rattle.transitions.specs.declared.types.Mode.TheVariants.{Up, Down}
-use Rattle.records.specs.Written.{bit, kind_number}
-use Rattle.records.specs.Bytes.{byte_at, clock_time, le32, tenths_at, is_flag, is_set, zeros_from, has_marks}
+use Rattle.records.specs.Written.{bit, known, kind_number}
+use Rattle.records.specs.Bytes.{byte_at, clock_time, le16, le32, le64, tenths_at, is_flag, is_set, zeros_from, has_marks}
 
 -- 0 up, 1 down
 abbrev pub mode_of : Bool → Mode
@@ -127,7 +129,64 @@ abbrev pub event_read_number : Option Event → ℕ
 event_read_number (Some e) = 0
 event_read_number None = 1
 
--- the number of its kind, its time, its on/off value
+-- The values that are read: what a kind says, in the order of its bytes; before a value that may be missing, whether it is known.
+
+abbrev option_values : CommandOptions → List ℕ
+option_values options = options.options_mask.0 ∷ options.options_override.0 ∷ []
+
+abbrev answer_values : DeviceAnswer → List ℕ
+answer_values (device.Level l) = 0 ∷ l ∷ []
+answer_values device.Missing = 1 ∷ []
+answer_values device.Failed = 2 ∷ []
+
+abbrev pub kind_values : EventKind → List ℕ
+kind_values kind.StartUp = []
+kind_values (kind.Command (command.MoveToLevel r)) = bit r.options.with_on_off ∷ r.level ∷ known r.transition_time ∷ time_values r.transition_time ++ option_values r.options
+kind_values (kind.Command (command.Move r)) = bit r.options.with_on_off ∷ mode_number r.mode ∷ known r.rate ∷ level_values r.rate ++ option_values r.options
+kind_values (kind.Command (command.Step r)) =
+    bit r.options.with_on_off ∷ mode_number r.mode ∷ r.step_size ∷ known r.transition_time ∷ time_values r.transition_time ++ option_values r.options
+kind_values (kind.Command (command.Stop options)) = bit options.with_on_off ∷ option_values options
+kind_values (kind.Answer a) = answer_values a
+kind_values kind.Wake = []
+kind_values (kind.Command (command.OnOffChanged on)) = bit on ∷ []
+kind_values (kind.Command (command.Scene r)) = known r.level ∷ level_values r.level ++ r.transition_time.0 ∷ []
+kind_values (kind.Command (command.DeviceUpdate l)) = l ∷ []
+kind_values (kind.Command command.DeviceStop) = []
+kind_values (kind.Command (command.SetOnLevel l)) = known l ∷ level_values l
+kind_values (kind.Command (command.SetDefaultMoveRate r)) = known r ∷ level_values r
+kind_values (kind.Command (command.SetStartUpCurrentLevel l)) = known l ∷ level_values l
+kind_values (kind.Command command.FactoryReset) = []
+
+-- the number of its kind, its time, its on/off value, and what its kind says
 abbrev pub event_read_values : Option Event → List ℕ
-event_read_values (Some e) = kind_number e.kind ∷ e.moment.at.0 ∷ bit e.moment.on_off ∷ []
+event_read_values (Some e) = kind_number e.kind ∷ e.moment.at.0 ∷ bit e.moment.on_off ∷ kind_values e.kind
 event_read_values None = []
+
+-- the same, as they stand in the bytes
+
+-- a flag, and the value that it says is known
+abbrev known_at : List ℕ → ℕ → ℕ → List ℕ
+known_at s flag value = byte_at s flag ∷ (if is_set s flag then value ∷ [] else [])
+
+-- of each of the kinds, in the order of their numbers from 0 on
+abbrev pub kind_values_at : List ℕ → List (List ℕ)
+kind_values_at s =
+    []
+    ∷ (byte_at s 12 ∷ byte_at s 13 ∷ known_at s 14 (le16 s 15) ++ byte_at s 17 ∷ byte_at s 18 ∷ [])
+    ∷ (byte_at s 12 ∷ byte_at s 13 ∷ known_at s 14 (byte_at s 15) ++ byte_at s 16 ∷ byte_at s 17 ∷ [])
+    ∷ (byte_at s 12 ∷ byte_at s 13 ∷ byte_at s 14 ∷ known_at s 15 (le16 s 16) ++ byte_at s 18 ∷ byte_at s 19 ∷ [])
+    ∷ (byte_at s 12 ∷ byte_at s 13 ∷ byte_at s 14 ∷ [])
+    ∷ (byte_at s 12 ∷ (if nat_eq (byte_at s 12) 0 then byte_at s 13 ∷ [] else []))
+    ∷ []
+    ∷ (byte_at s 12 ∷ [])
+    ∷ (known_at s 12 (byte_at s 13) ++ le32 s 14 ∷ [])
+    ∷ (byte_at s 12 ∷ [])
+    ∷ []
+    ∷ known_at s 12 (byte_at s 13)
+    ∷ known_at s 12 (byte_at s 13)
+    ∷ known_at s 12 (byte_at s 13)
+    ∷ []
+    ∷ []
+
+abbrev pub event_values_at : List ℕ → List ℕ
+event_values_at s = byte_at s 2 ∷ le64 s 4 ∷ byte_at s 3 ∷ get_or (kind_values_at s) (byte_at s 2) []

@@ -4,7 +4,7 @@ use Rattle.std.specs.Bool.{then_some}
 use Rattle.transitions.specs.declared.settings.Attributes.{Attributes}
 use Rattle.transitions.specs.declared.settings.Settings.{Settings}
 use Rattle.transitions.specs.Types.{level_values, time_values}
-use Rattle.records.specs.Written.{bit}
+use Rattle.records.specs.Written.{bit, known}
 use Rattle.records.specs.Bytes.{byte_at, le16, tenths_at, is_flag, is_set, zeros_from, has_marks}
 use Rattle.records.specs.declared.refusal.RecordRefusal.{RecordRefusal}
 use Rattle.records.specs.declared.refusal.RecordRefusal.TheVariants.{RecordWrong, MaxAbove254, MinAboveMax, LightingMin0}
@@ -62,22 +62,24 @@ abbrev pub settings_read_number : Result Settings RecordRefusal → ℕ
 settings_read_number (Ok settings) = 0
 settings_read_number (Err refusal) = refusal_number refusal
 
--- the values that are read, in the order of the record; a missing one is left out
+-- the values that are read, in the order of the record; before each that may be missing, whether it is known
 abbrev pub settings_read_values : Result Settings RecordRefusal → List ℕ
 settings_read_values (Ok x) =
     let a = x.attributes in
     x.range.min ∷ x.range.max ∷ bit x.coupled ∷ a.options.0 ∷ x.fastest_rate
-    ∷ level_values x.current_level ++ level_values a.on_level ++ level_values a.start_up_current_level ++ level_values a.default_move_rate
-    ++ a.on_off_transition_time.0 ∷ time_values a.on_transition_time ++ time_values a.off_transition_time ++ bit x.lighting ∷ []
+    ∷ known x.current_level ∷ level_values x.current_level ++ known a.on_level ∷ level_values a.on_level
+    ++ known a.start_up_current_level ∷ level_values a.start_up_current_level ++ known a.default_move_rate ∷ level_values a.default_move_rate
+    ++ a.on_off_transition_time.0 ∷ known a.on_transition_time ∷ time_values a.on_transition_time
+    ++ known a.off_transition_time ∷ time_values a.off_transition_time ++ bit x.lighting ∷ []
 settings_read_values (Err refusal) = []
 
 -- the same, as they stand in the bytes
 
-abbrev known_value : List ℕ → ℕ → ℕ → List ℕ
-known_value s bit value = if known_bit s bit then value ∷ [] else []
+abbrev known_setting : List ℕ → ℕ → ℕ → List ℕ
+known_setting s bit value = byte_at s 11 / 2 ^ bit % 2 ∷ (if known_bit s bit then value ∷ [] else [])
 
 abbrev pub settings_values_at : List ℕ → List ℕ
 settings_values_at s =
     byte_at s 2 ∷ byte_at s 3 ∷ byte_at s 4 ∷ byte_at s 5 ∷ byte_at s 6
-    ∷ known_value s 0 (byte_at s 7) ++ known_value s 1 (byte_at s 8) ++ known_value s 2 (byte_at s 9) ++ known_value s 3 (byte_at s 10)
-    ++ le16 s 12 ∷ known_value s 4 (le16 s 14) ++ known_value s 5 (le16 s 16) ++ byte_at s 18 ∷ []
+    ∷ known_setting s 0 (byte_at s 7) ++ known_setting s 1 (byte_at s 8) ++ known_setting s 2 (byte_at s 9) ++ known_setting s 3 (byte_at s 10)
+    ++ le16 s 12 ∷ known_setting s 4 (le16 s 14) ++ known_setting s 5 (le16 s 16) ++ byte_at s 18 ∷ []

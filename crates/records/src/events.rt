@@ -1,7 +1,7 @@
 //! A record to an event.
-ghost use Rattle.std.specs.Prelude.{◌≡◌, ◌≢◌, ◌↔◌, ◌≤◌, ◌<◌, [], ◌∷◌, get_or, if◌then◌else◌, nat_eq};
-ghost use Rattle.records.specs.Bytes.{byte_at, le64};
-ghost use Rattle.records.specs.Events.{answer, bare, command_options, device_update, event_read, event_read_number, event_read_values, kind_read, known_value, mode_at, move, move_to_level, of_command, on_off_changed, scene, step, stop};
+ghost use Rattle.std.specs.Prelude.{◌≡◌, ◌≢◌, ◌↔◌, ◌≤◌, ◌<◌, [], get_or, if◌then◌else◌, nat_eq};
+ghost use Rattle.records.specs.Bytes.{byte_at};
+ghost use Rattle.records.specs.Events.{answer, bare, command_options, device_update, event_read, event_read_number, event_read_values, event_values_at, kind_read, known_value, mode_at, move, move_to_level, of_command, on_off_changed, scene, step, stop};
 ghost use Rattle.records.specs.Layout.{event_layouts, layout, Keeps, Marked};
 
 use crate::RECORD;
@@ -22,8 +22,8 @@ pub fn read_event(bytes: &[u8]) -> Option<Event>
     ensures number { (event_read_number result ≡ 0)
         ↔ (Marked bytes.now 0x45 × (byte_at bytes.now 3 ≤ 1) × (byte_at bytes.now 2 < 15)
         × Keeps bytes.now (get_or event_layouts (byte_at bytes.now 2) (layout [] 0))) }
-    ensures values { event_read_values result ≡ (if nat_eq (event_read_number result) 0
-        then byte_at bytes.now 2 ∷ le64 bytes.now 4 ∷ byte_at bytes.now 3 ∷ [] else []) }
+    ensures values { event_read_values result
+        ≡ (if nat_eq (event_read_number result) 0 then event_values_at bytes.now else []) }
 {
     let bytes = marked(bytes, 0x45)?;
     let on_off = flag(bytes[3])?;

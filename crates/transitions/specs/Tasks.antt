@@ -1,5 +1,5 @@
 -- Events and answers: the request that is open, and the wait. Fades and Moves: how they begin and go on.
-use Rattle.std.specs.Prelude.{ℕ, ◌+◌, ◌-◌, Bool, true, false, cond, ◌||◌, List, [], ◌∷◌, ltb, eqb, Option, Some, None}
+use Rattle.std.specs.Prelude.{ℕ, ◌+◌, ◌-◌, ◌*◌, ◌/◌, Bool, true, false, cond, if◌then◌else◌, ◌||◌, List, [], ◌∷◌, ◌++◌, ltb, eqb, Option, Some, None}
 use Rattle.units.specs.Numbers.{apart}
 use Rattle.units.specs.Units.{tenths_to_millis, millis_to_micros, at_most}
 use Rattle.units.specs.declared.Millis.{Millis}
@@ -63,36 +63,47 @@ abbrev pub mode_number : Mode → ℕ
 mode_number Up = 0
 mode_number Down = 1
 
--- what a fade and a move keep, but for the phase: of a fade the target, the level that was asked for last, T, the unrounded remaining time, the period, whether it
--- is with on/off, whether it is a scene's, the level that it puts back, if any; of a move whether it is with on/off, the mode, 0 up and 1 down, and the period
+-- since when a request is open, or until when the task waits
+abbrev pub phase_values : Phase → List ℕ
+phase_values (Asked since) = 0 ∷ since.0 ∷ []
+phase_values (Waiting until) = 1 ∷ until.0 ∷ []
 
+-- what a fade keeps: its phase, the target, the level that was asked for last, T, the unrounded remaining time, the period, whether it is with on/off, whether it
+-- is a scene's, the level that it puts back, if any
 abbrev pub fade_values : Fade → List ℕ
 fade_values f =
-    f.target ∷ f.counter ∷ f.transition_time.0 ∷ f.remaining.0 ∷ f.period.0 ∷ flag_number f.with_on_off ∷ flag_number f.scene_apply ∷ level_values f.after
+    phase_values f.phase
+    ++ f.target ∷ f.counter ∷ f.transition_time.0 ∷ f.remaining.0 ∷ f.period.0 ∷ flag_number f.with_on_off ∷ flag_number f.scene_apply ∷ level_values f.after
 
+-- a move's course: whether it is with on/off, the mode, 0 up and 1 down, the period
 abbrev pub course_values : MoveCourse → List ℕ
 course_values m = flag_number m.with_on_off ∷ mode_number m.mode ∷ m.period.0 ∷ []
 
--- since when the request is open, of a move the level that it asks for, and what the task keeps; of the reaction to on the level before, if it is known
+-- what a move keeps: its phase, the level that was asked for last, its course
+abbrev pub move_values : Move → List ℕ
+move_values m = phase_values m.phase ++ m.asked ∷ course_values m.course
+
+-- whose request it is: 0 start-up's, 1 a fade's, 2 a move's, 3 the reaction to on's; of a fade and a move since when it is open, and what the task keeps; of the
+-- reaction to on the level before, if it is known
 abbrev pub request_values : Option Request → List ℕ
-request_values (Some request.StartUp) = []
-request_values (Some (request.Fade f since)) = since.0 ∷ fade_values f
-request_values (Some (request.Move m since)) = since.0 ∷ m.asked ∷ course_values m.course
-request_values (Some (request.OnReaction o)) = level_values o.before
+request_values (Some request.StartUp) = 0 ∷ []
+request_values (Some (request.Fade f since)) = 1 ∷ since.0 ∷ fade_values f
+request_values (Some (request.Move m since)) = 2 ∷ since.0 ∷ move_values m
+request_values (Some (request.OnReaction o)) = 3 ∷ level_values o.before
 request_values None = []
 
 -- the same, read from the task itself
 
-abbrev pub since_in : Phase → List ℕ → List ℕ
-since_in (Asked since) values = since.0 ∷ values
-since_in (Waiting until) values = []
+abbrev pub asked_in : Phase → ℕ → List ℕ → List ℕ
+asked_in (Asked since) whose values = whose ∷ since.0 ∷ values
+asked_in (Waiting until) whose values = []
 
-abbrev pub asked_since : Task → List ℕ
-asked_since task.Rest = []
-asked_since task.StartUp = []
-asked_since (task.Fade f) = since_in f.phase (fade_values f)
-asked_since (task.Move m) = since_in m.phase (m.asked ∷ course_values m.course)
-asked_since (task.OnReaction o) = level_values o.before
+abbrev pub asked_values : Task → List ℕ
+asked_values task.Rest = []
+asked_values task.StartUp = 0 ∷ []
+asked_values (task.Fade f) = asked_in f.phase 1 (fade_values f)
+asked_values (task.Move m) = asked_in m.phase 2 (move_values m)
+asked_values (task.OnReaction o) = 3 ∷ level_values o.before
 
 -- a wait is over: a wake at its time or later is accepted
 
@@ -124,19 +135,19 @@ abbrev pub wait_number : Option Wait → ℕ
 wait_number (Some w) = 0
 wait_number None = 8
 
--- what the task keeps that waited
+-- whose wait it is, by the numbers above; of a fade all that it keeps, of a move its course
 abbrev pub wait_values : Option Wait → List ℕ
-wait_values (Some (wait.Fade f)) = fade_values f
-wait_values (Some (wait.Move course)) = course_values course
+wait_values (Some (wait.Fade f)) = 1 ∷ fade_values f
+wait_values (Some (wait.Move course)) = 2 ∷ course_values course
 wait_values None = []
 
--- the same, read from the task itself
-abbrev pub waiting_task : Task → List ℕ
-waiting_task task.Rest = []
-waiting_task task.StartUp = []
-waiting_task (task.Fade f) = fade_values f
-waiting_task (task.Move m) = course_values m.course
-waiting_task (task.OnReaction o) = []
+-- the same of a task whose wait is over, read from the task itself
+abbrev pub waiting_values : Task → List ℕ
+waiting_values task.Rest = []
+waiting_values task.StartUp = []
+waiting_values (task.Fade f) = 1 ∷ fade_values f
+waiting_values (task.Move m) = 2 ∷ course_values m.course
+waiting_values (task.OnReaction o) = []
 
 -- Fades.
 
@@ -201,6 +212,23 @@ abbrev pub begin_requests : Begin → List ℕ
 begin_requests begin.Reached = []
 begin_requests begin.Lost = []
 begin_requests (begin.Starts f) = f.counter ∷ []
+
+-- of a fade that starts all that it keeps
+abbrev pub begin_values : Begin → List ℕ
+begin_values begin.Reached = []
+begin_values begin.Lost = []
+begin_values (begin.Starts f) = fade_values f
+
+-- the same, from the level c and what is asked: the request is open since now, for t if T = 0, else for the next level on the way; 100·T milliseconds remain, the
+-- period is 100·T ÷ |t − c| rounded down, and c is put back if it is to be
+abbrev first_asked : ℕ → ℕ → ℕ → ℕ
+first_asked level target time = if eqb time 0 then target else if ltb level target then level + 1 else level - 1
+
+abbrev pub begun_values : ℕ → FadeRequest → Micros → List ℕ
+begun_values level r now =
+    let time = r.transition_time.0 in
+    0 ∷ now.0 ∷ r.target ∷ first_asked level r.target time ∷ time ∷ time * 100 ∷ time * 100 / apart r.target level
+    ∷ flag_number r.with_on_off ∷ flag_number r.scene_apply ∷ (if r.restores then level ∷ [] else [])
 
 -- Moves.
 

@@ -1,8 +1,8 @@
 //! What a running task keeps, and how it begins and goes on (the source's Task, its timers and its loops).
 //! Derived from level_control.rs of project-chip/rs-matter 43f61585a4 (see NOTICE), and changed.
-ghost use Rattle.std.specs.Prelude.{◌≡◌, ◌+◌, ◌-◌, ◌*◌, min, [], ◌∷◌, if◌then◌else◌, is_some, nat_eq, nat_le, nat_lt, unwrap_or};
+ghost use Rattle.std.specs.Prelude.{◌≡◌, ◌+◌, ◌-◌, ◌*◌, min, [], ◌∷◌, if◌then◌else◌, is_some, nat_eq, nat_le, unwrap_or};
 ghost use Rattle.transitions.specs.Fade.{waits};
-ghost use Rattle.transitions.specs.Tasks.{asked_since, at_limit, begin_fade, begin_number, begin_requests, due_wait, fade_asking, fade_from, fade_last, fade_left, fade_next, fade_start, fade_waiting, is_move_end, level_to_restore, move_asking, move_step_number, move_step_requests, move_waiting, next_move, one_on, open_request, request_number, request_values, task_due, task_open, wait_number, wait_values, waiting_task};
+ghost use Rattle.transitions.specs.Tasks.{asked_values, at_limit, begin_fade, begin_number, begin_values, begun_values, due_wait, fade_asking, fade_from, fade_last, fade_left, fade_next, fade_start, fade_waiting, is_move_end, level_to_restore, move_asking, move_step_number, move_step_requests, move_waiting, next_move, one_on, open_request, request_number, request_values, task_due, task_open, wait_number, wait_values, waiting_values};
 ghost use Rattle.transitions.specs.Types.{level_values};
 
 use crate::fade::{fade_period, is_transition_start, next_level, remaining_after, wait_or_ask};
@@ -113,7 +113,7 @@ impl Task {
     pub fn open_request(self) -> Option<Request>
         ensures value { result ≡ open_request self }
         ensures number { request_number result ≡ (if task_open self then 0 else 7) }
-        ensures values { request_values result ≡ asked_since self }
+        ensures values { request_values result ≡ asked_values self }
     {
         match self {
             Task::StartUp => Some(Request::StartUp),
@@ -132,7 +132,7 @@ impl Task {
     pub fn due_wait(self, now: Micros) -> Option<Wait>
         ensures value { result ≡ due_wait self now }
         ensures number { wait_number result ≡ (if task_due self now then 0 else 8) }
-        ensures values { wait_values result ≡ (if task_due self now then waiting_task self else []) }
+        ensures values { wait_values result ≡ (if task_due self now then waiting_values self else []) }
     {
         match self {
             Task::Fade(fade) if let Phase::Waiting { until } = fade.phase && until <= now => {
@@ -257,14 +257,12 @@ pub fn fade_from(level: u8, request: FadeRequest, now: Micros) -> Fade
     }
 }
 
-#[tactic(auto, unfolding(crate::specs::Tasks::begin_fade, crate::specs::Tasks::fade_from, crate::specs::Fade::next_level))]
+#[tactic(auto, unfolding(crate::specs::Tasks::begin_fade, crate::specs::Tasks::fade_from, crate::specs::Fade::next_level, crate::specs::Fade::fade_period))]
 pub fn begin_fade(level: Level, request: FadeRequest, now: Micros) -> Begin
     ensures value { result ≡ begin_fade level request now }
     ensures number { begin_number result ≡ (if is_some level then 0 else 11) }
-    ensures values { let from = unwrap_or level request.target in begin_requests result
-        ≡ (if nat_eq from request.target then []
-        else if nat_eq request.transition_time.0 0 then request.target ∷ []
-        else if nat_lt from request.target then (from + 1) ∷ [] else (from - 1) ∷ []) }
+    ensures values { let from = unwrap_or level request.target in begin_values result
+        ≡ (if nat_eq from request.target then [] else begun_values from request now) }
 {
     match level {
         None => Begin::Lost,
