@@ -10,9 +10,10 @@ use native.Mathlib.Omega.{arith}
 use borrow.Author.Tests.{lt-ltb, le-ltb, le-leb, lt-leb, leb-true, eqb-true, eq-eqb}
 use lib.Dec.{leb}
 use lib.IntN.{ℤ, pos, negsuc}
-use lib.ListN.{length, take, drop, length-append, length-drop}
+use lib.ListN.{length, take, drop, length-append, length-drop, drop_of_length-le}
 use lib.Seq.{sets, sets-eq, take_at, take_all, drop_at, length-take-le}
 use Rattle.std.proofs.lemmas.Bool.{cases_lt}
+use Rattle.std.proofs.lemmas.List.{append-nil}
 use Rattle.text.specs.Text.{ascii, digits, digits_within}
 use Rattle.records.specs.Settings.{settings_read, settings_read_number}
 use Rattle.records.specs.declared.refusal.RecordRefusal.{RecordRefusal}
@@ -26,7 +27,7 @@ use Rattle.sheet.specs.Lines.{record_outcome, records_of, outcomes_of, outcome_l
 use Rattle.sheet.specs.Play.{length_ok, fitted, play_with, play_of, number_of, result, returned, refusal_text, shown, key_of, printed}
 use Rattle.sheet.specs.declared.refusal.PlayRefusal.{PlayRefusal}
 use Rattle.sheet.specs.declared.refusal.PlayRefusal.TheVariants.{Record as RecordRefused, TextTooLong}
-use Rattle.sheet.proofs.SheetLaws.{at_least, at_most}
+use Rattle.sheet.proofs.SheetLaws.{at_least, at_most, front_set}
 
 twenties : (n : ℕ) → length_ok n ≡ true → n % 20 ≡ 0
 unfolding length_ok
@@ -228,6 +229,31 @@ prints_number : (records out : List ℕ) (n : ℕ) → (returned (play_of record
 unfolding key_of
 prints_number records out n e h = prints (play_of records out) out n (keeps records out) e h
 
+-- a line that does not fit, as much of it as does
+part_line : (text out : List ℕ) → length text ≤ 5 → length out ≤ length text
+    → ◌≡◌ {A = ℕ × List ℕ} (min (length text) 18446744073709551615, sets out 0 text) (length text, take (length out) text)
+part_line text out s h =
+    let least : min (length text) 18446744073709551615 ≡ length text = omega arith in
+    let rest : drop (length out) out ≡ [] = drop_of_length-le out {i = length out} (omega arith) in
+    let part : sets out 0 text ≡ take (length out) text = front_set text out (length out) (omega arith) ∙ rw (rest, append-nil) refl in
+    rw (least, part) refl
+
+prints_short : (p : Result ℕ PlayRefusal × List ℕ) (out : List ℕ) (n : ℕ) → Keeps p out → result p.0 ≡ negsuc n → length out ≤ length (line (n + 1))
+    → shown p ≡ (length (line (n + 1)), take (length out) (line (n + 1)))
+unfolding shown
+prints_short (Ok m, q) out n k e h = absurd (false≢true (ap is_minus e))
+prints_short (Err why, q) out n k e h =
+    let number : number_of why ≡ n + 1 = omega (arith, ap less_one e, above_0 why) in
+    let text : refusal_text why ≡ line (n + 1) = line_is why ∙ ap line number in
+    let kept : q ≡ out = k.0 why refl in
+    let short : length (line (n + 1)) ≤ 5 = subst (λ (t : List ℕ). length t ≤ 5) text (short_line why) in
+    rw (kept, text) (part_line (line (n + 1)) out short h)
+
+prints_part : (records out : List ℕ) (n : ℕ) → (returned (play_of records out)).0 ≡ negsuc n
+    → length out ≤ length (line (n + 1)) → key_of records out ≡ (length (line (n + 1)), take (length out) (line (n + 1)))
+unfolding key_of
+prints_part records out n e h = prints_short (play_of records out) out n (keeps records out) e h
+
 -- the first 20 bytes are the first record
 first_line : (start : LevelControlState) (bytes rest : List ℕ) → length bytes ≡ 20
     → text_of start (bytes ++ rest)
@@ -276,6 +302,7 @@ sheet_laws = record {
   minus_2_3_4 = minus_2_3_4;
   prints_text = prints_text;
   prints_number = prints_number;
+  prints_part = prints_part;
   refusal_lines = refusal_lines;
   reads_enough = reads_enough;
   same_length = λ records out. (keeps records out).1;

@@ -13,7 +13,7 @@ use Rattle.records.specs.Bytes.{byte_at}
 use Rattle.records.specs.Settings.{settings_read, settings_read_number, settings_wrong, refusal_number}
 use Rattle.records.specs.declared.refusal.RecordRefusal.{RecordRefusal}
 use Rattle.records.specs.declared.refusal.RecordRefusal.TheVariants.{RecordWrong, MaxAbove254, MinAboveMax, LightingMin0}
-use Rattle.records.specs.Laws.{settings_causes, settings_tests}
+use Rattle.records.specs.Laws.{settings_causes}
 use Rattle.records.proofs.LayoutLaws.{settings_number}
 use Rattle.level_control.specs.State.{new_state}
 use Rattle.sheet.specs.Lines.{text_of}

@@ -47,6 +47,10 @@ pub record Laws : Type 0 where
       → let line = ascii "0 " ++ digits (n + 1) ++ ascii "\n" in
       length line ≤ length out
       → (key_of records out ≡ (length line, line ++ drop (length line) out)) × (printed (key_of records out) ≡ line)
+  -- of a line for which out has no room, as much as fits; the length is that of the whole
+  pub prints_part : (records out : List ℕ) (n : ℕ) → (returned (play_of records out)).0 ≡ negsuc n
+      → let line = ascii "0 " ++ digits (n + 1) ++ ascii "\n" in
+      length out ≤ length line → key_of records out ≡ (length line, take (length out) line)
   -- these lines, byte for byte
   pub refusal_lines : (refusal_text (RecordRefused RecordWrong) ≡ 48 ∷ 32 ∷ 49 ∷ 10 ∷ [])
       × (refusal_text (RecordRefused MaxAbove254) ≡ 48 ∷ 32 ∷ 50 ∷ 10 ∷ [])

@@ -12,8 +12,8 @@ use Rattle.units.specs.declared.Tenths.{Tenths}
 use Rattle.transitions.specs.declared.actions.Action.{Action}
 use Rattle.transitions.specs.declared.actions.ActionKind.{ActionKind}
 use Rattle.transitions.specs.declared.actions.ActionKind.TheVariants.{D, P, S, C, L, R, W, E, K, X}
-use Rattle.text.specs.Text.{digits}
-use Rattle.text.specs.Line.{letter_of, shows_value, level_text, action_text, actions_text, line_of}
+use Rattle.text.specs.Text.{ascii, digits}
+use Rattle.text.specs.Line.{letter_of, shows_value, level_text, action_text, actions_text, line_of, refusal_line}
 use Rattle.text.specs.Laws.{All, Digit, Printable, split, action_word, action_words, Shows}
 use Rattle.text.proofs.DigitLaws.{all_append, digits_only}
 
@@ -99,3 +99,11 @@ module _ (index number : ℕ) (level : Option ℕ) (remaining : Tenths) (actions
       cut_actions (digits remaining.0) actions (number_marks remaining.0),
     );
   }
+
+pub refusal_shows : (number : ℕ) → Shows (refusal_line number) (ascii "0" ∷ digits number ∷ [])
+refusal_shows number = record {
+  shown = ascii "0 " ++ digits number;
+  ends = refl;
+  printable = ((lit≤ tt, lit≤ tt), ((lit≤ tt, lit≤ tt), weaker (digits number) (number_marks number)));
+  cut = ap (λ (ws : List (List ℕ)). ascii "0" ∷ ws) (cut_last (digits number) (number_marks number));
+}

@@ -12,7 +12,7 @@ use Rattle.text.specs.Line.{level_text, action_text, actions_text, line_of}
 use Rattle.text.specs.Laws.{Laws}
 use Rattle.text.proofs.DigitLaws.{digits_decimal, digits_read, digits_only, first_digit, digits_below}
 use Rattle.text.proofs.LineLaws.{line_length}
-use Rattle.text.proofs.ShowLaws.{line_shows}
+use Rattle.text.proofs.ShowLaws.{line_shows, refusal_shows}
 
 stands : (old : List ℕ) (at : ℕ) (text new : List ℕ) (r : ℕ) → length old ≤ most → Wrote old at text new r → at + length text ≤ length old
     → (new ≡ take at old ++ text ++ drop (at + length text) old) × (r ≡ at + length text)
@@ -44,6 +44,7 @@ text_laws = record {
   line_length = line_length;
   sheet = refl;
   other_letters = refl;
+  refusal_shows = refusal_shows;
   refusals = (refl, refl, refl, refl, refl);
   stands = stands;
   too_long = too_long;

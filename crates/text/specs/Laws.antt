@@ -87,7 +87,9 @@ pub record Laws : Type 0 where
       ≡ ascii "1 0 10 0 D11\n2 0 11 2 P S L W2100000\n3 0 11 2 D12\n4 0 12 1 P S W2200000\n5 8 12 1\n6 0 12 1 D13\n7 0 13 0 P S L R\n"
   -- and the letters that they lack
   pub other_letters : line_of 1 0 None (tenths 0) (act C 0 ++ act C 1 ++ act E 15 ++ act K 0 ++ act X 0) ≡ ascii "1 0 - 0 C0 C1 E15 K X\n"
-  -- the line of a refused play, for each of its numbers
+  -- the line of a refused play shows 0 and its number
+  pub refusal_shows : (number : ℕ) → Shows (refusal_line number) (ascii "0" ∷ digits number ∷ [])
+  -- byte for byte, for each of its numbers
   pub refusals : (refusal_line 1 ≡ ascii "0 1\n")
       × (refusal_line 2 ≡ ascii "0 2\n")
       × (refusal_line 3 ≡ ascii "0 3\n")

@@ -35,6 +35,7 @@ use Rattle.transitions.specs.Types.{Rate}
 use Rattle.transitions.specs.declared.types.OptionsBitmap.{OptionsBitmap}
 use Rattle.transitions.specs.Causes.{Tests}
 use Rattle.transitions.specs.declared.actions.ActionKind.TheVariants.{C}
+use Rattle.transitions.proofs.ActionLaws.{full}
 use Rattle.transitions.proofs.SearchLaws.{found, missed, either}
 use Rattle.transitions.proofs.TaskLaws as task
 use Rattle.transitions.proofs.TaskLaws.{none_is_not_one, one_is, one}
@@ -110,6 +111,10 @@ level_report : (gap last now : Micros) (old new : ℕ) → 1 ≤ gap.0
 unfolding current_level_due
 level_report gap last now old new h =
     (λ e. let g : gap.0 ≤ now.0 - last.0 = leb-true _ _ (simp or-false at e) in omega arith, λ g. simp (le-leb gap.0 (now.0 - last.0) (omega arith)))
+
+report_without_gap : (last now : Micros) (end : Bool) (old new : Level) → current_level_due (micros 0) last now end old new ≡ true
+unfolding current_level_due
+report_without_gap last now end old new = simp (le-leb 0 (now.0 - last.0) (omega arith))
 
 end_report : (gap last now : Micros) (old new : Level) → current_level_due gap last now true old new ≡ true
 unfolding current_level_due
@@ -266,6 +271,10 @@ remaining_falls : (remaining period : Millis) → period.0 ≤ remaining.0 → (
 unfolding remaining_after
 remaining_falls remaining period h = omega arith
 
+remaining_stops : (remaining period : Millis) → remaining.0 ≤ period.0 → (remaining_after remaining period false).0 ≡ 0
+unfolding remaining_after
+remaining_stops remaining period h = omega arith
+
 remaining_ends : (remaining period : Millis) → (remaining_after remaining period true).0 ≡ 0
 unfolding remaining_after
 remaining_ends remaining period = refl
@@ -385,6 +394,7 @@ rule_laws = record {
   remaining_report = remaining_report;
   options_stop = options_stop;
   level_report = level_report;
+  report_without_gap = report_without_gap;
   end_report = end_report;
   missing_report = missing_report;
   coupling = coupling;
@@ -393,6 +403,7 @@ rule_laws = record {
   target_held = λ level lo hi h g. rw (target_clamped level lo hi h) (omega arith, omega arith);
   target_stays = λ level lo hi h g k. rw (target_clamped level lo hi h) (omega arith);
   target_clamped = λ level lo hi h g. rw (target_clamped level lo hi h) (λ k. omega arith, λ k. omega arith);
+  target_crossed = λ level lo hi h g. rw (target_clamped level lo hi h) (omega arith);
   target_options = λ level. (leb-true level 254, le-leb level 254);
   step_up = value.step_up;
   step_down = value.step_down;
@@ -402,7 +413,9 @@ rule_laws = record {
   rate_10 = rate_10;
   rate_taken = rate_taken;
   fade_period_rounds = task.fade_period_rounds;
+  fade_period_0 = task.fade_period_0;
   remaining_falls = remaining_falls;
+  remaining_stops = remaining_stops;
   remaining_ends = remaining_ends;
   counter_moves = counter_moves;
   counter_jumps = counter_jumps;
@@ -429,10 +442,12 @@ rule_laws = record {
   scene_at = scene.scene_at;
   scene_nowhere = scene.scene_nowhere;
   same_level_means = value.same_level_means;
+  within = value.within;
   outside = value.outside;
   rate_0 = value.rate_0;
   seven_held = λ l. omega (arith, length-take 7 l);
   held_stays = λ l h. take_all 7 l h;
+  eighth_dropped = full;
   request_given = task.request_given;
   wait_given = task.wait_given;
   cause = cause;

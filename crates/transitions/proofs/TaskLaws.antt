@@ -12,6 +12,7 @@ use lib.Dec.{ltb, eqb}
 use Rattle.std.proofs.lemmas.Bool.{or_cases, or_left, or_right}
 use Rattle.std.proofs.lemmas.Option.{none-some, same_Some}
 use Rattle.units.specs.Numbers.{apart}
+use Rattle.units.specs.Units.{millis}
 use Rattle.units.specs.declared.Tenths.{Tenths}
 use Rattle.units.specs.declared.Millis.{Millis}
 use Rattle.units.specs.declared.Micros.{Micros}
@@ -72,6 +73,10 @@ wait_given (task.Move m) now = wait_in m.phase now _
 wait_given (task.OnReaction o) now = refl
 
 -- Fades
+
+pub fade_period_0 : (time : Tenths) → fade_period time 0 ≡ millis 0
+unfolding fade_period
+fade_period_0 time = ap millis (omega arith)
 
 pub fade_period_rounds : (time : Tenths) (n : ℕ) → 1 ≤ n
     → (n * (fade_period time n).0 ≤ 100 * time.0) × (100 * time.0 < n * ((fade_period time n).0 + 1))

@@ -1,17 +1,18 @@
 -- Levels, rates and targets in the words of docs/RULES.md: proofs for specs/Laws.antt. Assumes nothing.
 use Rattle.std.specs.Prelude.{Some, None}
 use Prim.Native.Nat.{ℕ, ◌+◌, ◌≤◌, ◌<◌}
-use mathlib.Core.Bool.{true, false≢true}
+use mathlib.Core.Bool.{true, ◌&&◌, false≢true}
 use mathlib.Core.Path.{◌≡◌, refl, sym, ap}
 use mathlib.Core.Logic.{◌↔◌, ◌⊎◌, inl, inr, ⊎_elim}
 use native.Mathlib.Omega.{arith}
-use borrow.Author.Tests.{lt-ltb, ltb-true, eqb-true, eq-eqb}
-use lib.Dec.{ltb}
-use Rattle.std.proofs.lemmas.Bool.{or_cases, or_left, or_right}
+use borrow.Author.Tests.{lt-ltb, ltb-true, eqb-true, eq-eqb, leb-true, le-leb}
+use lib.Dec.{ltb, leb}
+use Rattle.std.proofs.lemmas.Bool.{and_from, and_parts, or_cases, or_left, or_right}
 use Rattle.std.proofs.lemmas.Option.{none-some, same_Some}
-use Rattle.transitions.specs.Types.{same_level, is_outside, is_zero_rate}
+use Rattle.transitions.specs.Types.{same_level, is_within, is_outside, is_zero_rate}
 use Rattle.transitions.specs.Commands.{step_level}
 use Rattle.transitions.specs.Types.{Level}
+use Rattle.transitions.specs.declared.types.LevelRange.{LevelRange}
 use Rattle.transitions.specs.declared.types.Mode.TheVariants.{Up, Down}
 use Rattle.transitions.specs.Types.{Rate}
 
@@ -21,6 +22,12 @@ same_level_means (Some a) (Some b) = (λ e. ap Some (eqb-true a b e), λ h. eq-e
 same_level_means (Some a) None = (λ e. absurd (false≢true e), λ h. absurd (none-some a (sym h)))
 same_level_means None (Some b) = (λ e. absurd (false≢true e), λ h. absurd (none-some b h))
 same_level_means None None = (λ e. refl, λ h. refl)
+
+pub within : (range : LevelRange) (level : ℕ) → (is_within range level ≡ true) ↔ ((range.min ≤ level) × (level ≤ range.max))
+within range level = (
+  (λ e. let two = and_parts (leb range.min level) (leb level range.max) e in (leb-true range.min level two.0, leb-true level range.max two.1)),
+  (λ h. and_from (leb range.min level) (leb level range.max) (le-leb range.min level h.0) (le-leb level range.max h.1)),
+)
 
 pub outside : (level : Level) (lo hi : ℕ) → (is_outside level lo hi ≡ true) ↔ ((c : ℕ) × (level ≡ Some c) × ((c < lo) ⊎ (hi < c)))
 outside (Some c) lo hi = (

@@ -1,13 +1,13 @@
 -- The rules in the words of docs/RULES.md: laws for every value, by which the definitions of this folder can be believed. Where a law
 -- speaks of a part of a definition by its name (a bit, a row of the table, a pair that decides), that part is to be read beside that page.
-use Rattle.std.specs.Prelude.{ℕ, ◌/◌, ◌+◌, ◌-◌, ◌*◌, ◌≤◌, ◌<◌, Bool, true, false, ◌≡◌, ◌↔◌, ◌⊎◌, List, [], ◌∷◌, length, slice_get, Option, Some, None, Ok, is_some}
+use Rattle.std.specs.Prelude.{ℕ, ◌/◌, ◌+◌, ◌-◌, ◌*◌, ◌≤◌, ◌<◌, Bool, true, false, ◌≡◌, ◌↔◌, ◌⊎◌, List, [], ◌∷◌, ◌++◌, length, slice_get, Option, Some, None, Ok, is_some}
 use Rattle.units.specs.Numbers.{apart}
-use Rattle.units.specs.Units.{tenths, micros}
+use Rattle.units.specs.Units.{tenths, millis, micros}
 use Rattle.units.specs.declared.Tenths.{Tenths}
 use Rattle.units.specs.declared.Millis.{Millis}
 use Rattle.units.specs.declared.Micros.{Micros}
 use Rattle.transitions.specs.Search.{NoneOf, First}
-use Rattle.transitions.specs.Types.{executes_if_off, rate_or, same_level, is_outside, is_zero_rate}
+use Rattle.transitions.specs.Types.{executes_if_off, rate_or, same_level, is_within, is_outside, is_zero_rate}
 use Rattle.transitions.specs.Events.{act, act_coupled}
 use Rattle.transitions.specs.RemainingTime.{remaining_time_due}
 use Rattle.transitions.specs.Options.{should_continue}
@@ -21,6 +21,7 @@ use Rattle.transitions.specs.Moves.{move_period}
 use Rattle.transitions.specs.Scene.{Pair, pairs, decides, scene_level}
 use Rattle.transitions.specs.Causes.{Row, rows, first_cause}
 use Rattle.transitions.specs.Types.{Level}
+use Rattle.transitions.specs.declared.types.LevelRange.{LevelRange}
 use Rattle.transitions.specs.declared.types.Mode.{Mode}
 use Rattle.transitions.specs.declared.types.Mode.TheVariants.{Up, Down}
 use Rattle.transitions.specs.Types.{Rate}
@@ -71,6 +72,8 @@ pub record Laws : Type 0 where
   -- Level reports: one that is no end and has no missing level is due exactly when the gap, which is not 0, or more has passed since the last-report time
   pub level_report : (gap last now : Micros) (old new : ℕ) → 1 ≤ gap.0
       → (current_level_due gap last now false (Some old) (Some new) ≡ true) ↔ (last.0 + gap.0 ≤ now.0)
+  -- with a gap of 0, which is not the program's, every one is due
+  pub report_without_gap : (last now : Micros) (end : Bool) (old new : Level) → current_level_due (micros 0) last now end old new ≡ true
   -- an end, an old level that is missing and a new one that is missing are each ground enough
   pub end_report : (gap last now : Micros) (old new : Level) → current_level_due gap last now true old new ≡ true
   pub missing_report : (gap last now : Micros) (end : Bool) (l : Level)
@@ -89,6 +92,8 @@ pub record Laws : Type 0 where
   -- one that lay outside becomes the nearer end
   pub target_clamped : (level lo hi : ℕ) → level ≤ 254 → lo ≤ hi
       → (level ≤ lo → target_level level lo hi ≡ lo) × (hi ≤ level → target_level level lo hi ≡ hi)
+  -- where MIN is above MAX, which no play reaches, it becomes MAX
+  pub target_crossed : (level lo hi : ℕ) → level ≤ 254 → hi ≤ lo → target_level level lo hi ≡ hi
   -- the options are looked at exactly for a target of at most 254
   pub target_options : (level : ℕ) → (consults_options level ≡ true) ↔ (level ≤ 254)
   -- Steps: to the sum, capped at MAX, or to the difference, raised to MIN
@@ -111,8 +116,11 @@ pub record Laws : Type 0 where
   -- Fades: the period p is 100·T ÷ n rounded down: n·p ≤ 100·T < n·(p + 1)
   pub fade_period_rounds : (time : Tenths) (n : ℕ) → 1 ≤ n
       → (n * (fade_period time n).0 ≤ 100 * time.0) × (100 * time.0 < n * ((fade_period time n).0 + 1))
-  -- the remaining time falls by the period, where it is as long, and is 0 at the end
+  -- over 0 levels, which no fade goes, it is 0
+  pub fade_period_0 : (time : Tenths) → fade_period time 0 ≡ millis 0
+  -- the remaining time falls by the period, where it is as long, else to 0, and is 0 at the end
   pub remaining_falls : (remaining period : Millis) → period.0 ≤ remaining.0 → (remaining_after remaining period false).0 + period.0 ≡ remaining.0
+  pub remaining_stops : (remaining period : Millis) → remaining.0 ≤ period.0 → (remaining_after remaining period false).0 ≡ 0
   pub remaining_ends : (remaining period : Millis) → (remaining_after remaining period true).0 ≡ 0
   -- a counter that is not at its target moves by one, and comes nearer; with time 0 it is there at once
   pub counter_moves : (counter target : ℕ) (time : Tenths) → 1 ≤ time.0 → (counter ≡ target → ⊥)
@@ -165,13 +173,17 @@ pub record Laws : Type 0 where
       → (scene_level ids values ≡ Some v)
       ↔ ((i : ℕ) × DecidesAt ids values i v × ((j w : ℕ) → j < i → DecidesAt ids values j w → ⊥))
   pub scene_nowhere : (ids values : List ℕ) → (scene_level ids values ≡ None) ↔ ((i v : ℕ) → DecidesAt ids values i v → ⊥)
-  -- Words: a level has changed exactly if it is another; only a known level lies outside MIN..MAX, and only a known rate is 0
+  -- Words: a level has changed exactly if it is another; one lies within MIN..MAX exactly if it is neither below MIN nor above MAX; only a known level lies
+  -- outside, and only a known rate is 0
   pub same_level_means : (a b : Level) → (same_level a b ≡ true) ↔ (a ≡ b)
+  pub within : (range : LevelRange) (level : ℕ) → (is_within range level ≡ true) ↔ ((range.min ≤ level) × (level ≤ range.max))
   pub outside : (level : Level) (lo hi : ℕ) → (is_outside level lo hi ≡ true) ↔ ((c : ℕ) × (level ≡ Some c) × ((c < lo) ⊎ (hi < c)))
   pub rate_0 : (r : Rate) → (is_zero_rate r ≡ true) ↔ (r ≡ Some 0)
   -- Events and answers: a list of actions holds at most seven, and those that are no more as they are
   pub seven_held : (l : List Action) → length (held l) ≤ 7
   pub held_stays : (l : List Action) → length l ≤ 7 → held l ≡ l
+  -- what would come behind the seventh is dropped
+  pub eighth_dropped : (l more : List Action) → length l ≡ 7 → held (l ++ more) ≡ l
   -- the request that is open is given exactly where one is, and the wait that is over exactly where one is
   pub request_given : (t : Task) → is_some (open_request t) ≡ task_open t
   pub wait_given : (t : Task) (now : Micros) → is_some (due_wait t now) ≡ task_due t now

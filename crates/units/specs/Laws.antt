@@ -1,7 +1,7 @@
 -- Units: laws of the conversions, for every value, in the words of docs/RULES.md.
 use Rattle.std.specs.Prelude.{ℕ, ◌+◌, ◌*◌, ◌%◌, ◌≤◌, ◌<◌, ◌≡◌, ◌↔◌, Some}
 use Rattle.units.specs.Numbers.{apart}
-use Rattle.units.specs.Units.{tenths_up, tenths_down, tenths_to_millis, later, elapsed, millis_to_micros, millis_divided, scaled_floor, scaled_number}
+use Rattle.units.specs.Units.{tenths_up, tenths_down, tenths_to_millis, later, elapsed, millis_to_micros, millis_less, millis_divided, scaled_floor, scaled_number}
 use Rattle.units.specs.declared.Tenths.{Tenths}
 use Rattle.units.specs.declared.Millis.{Millis}
 use Rattle.units.specs.declared.Micros.{Micros}
@@ -23,11 +23,17 @@ pub record Laws : Type 0 where
   -- tenths to milliseconds and back lose nothing, whichever way is rounded
   pub up_returns : (t : Tenths) → t.0 ≤ 65535 → tenths_up (tenths_to_millis t) ≡ t
   pub down_returns : (t : Tenths) → t.0 ≤ 65535 → tenths_down (tenths_to_millis t) ≡ t
+  -- a difference of milliseconds: with the second it makes the first, and it falls no lower than 0
+  pub less_makes : (a b : Millis) → b.0 ≤ a.0 → (millis_less a b).0 + b.0 ≡ a.0
+  pub less_ends : (a b : Millis) → a.0 ≤ b.0 → (millis_less a b).0 ≡ 0
   -- a division by 0 gives 0
   pub divided_by_0 : (ms : Millis) → (millis_divided ms 0).0 ≡ 0
   -- a span added to a reading has passed at the sum, where 64 bits hold it; it lies at or after the reading
   pub later_elapsed : (at span : Micros) → at.0 + span.0 ≤ 18446744073709551615 → elapsed at (later at span) ≡ span
   pub later_is_later : (at span : Micros) → at.0 ≤ 18446744073709551615 → at.0 ≤ (later at span).0
+  -- a sum that 64 bits do not hold is held at their end, and the span to an earlier reading is 0
+  pub later_ends : (at span : Micros) → 18446744073709551615 ≤ at.0 + span.0 → (later at span).0 ≡ 18446744073709551615
+  pub elapsed_ends : (from to : Micros) → to.0 ≤ from.0 → (elapsed from to).0 ≡ 0
   -- 12 exactly if the product is above 65,535; else the quotient q, rounded down: divisor·q ≤ T·factor < divisor·(q + 1)
   pub scaled_12 : (t : Tenths) (factor divisor : ℕ) → (scaled_number (scaled_floor t factor divisor) ≡ 12) ↔ (65535 < t.0 * factor)
   pub scaled_rounds_down : (t q : Tenths) (factor divisor : ℕ) → 1 ≤ divisor → scaled_floor t factor divisor ≡ Some q
