@@ -51,6 +51,12 @@ int main(int count, char **words) {
     write_play();
     memset(out, 0xA5, sizeof out);
 
+    /* NULL, with length 0, for each slice and for both */
+    if (level_control_play(NULL, 0, out, ROOM) != -1) fail("no records are answered wrongly", 0);
+    if (level_control_play(NULL, 0, NULL, 0) != -1) fail("nothing at all is answered wrongly", 0);
+    if (level_control_play(records, RECORD, NULL, 0) != 0) fail("settings alone are answered wrongly", 0);
+    if (level_control_play(records, 2 * RECORD, NULL, 0) != -16) fail("an event without room is answered wrongly", 0);
+
     /* every length of the same play, longer ones than a play may have too */
     for (size_t length = 0; length <= 5141; length++) {
         int32_t n = call(records, length, ROOM);

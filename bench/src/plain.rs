@@ -351,7 +351,7 @@ struct Fade {
     millis_left: u32,
     period: u32,
     /// The level to put back at the end of an off fade.
-    restore: Option<u8>,
+    put_back: Option<u8>,
 }
 
 #[derive(Clone, Copy)]
@@ -730,7 +730,7 @@ impl Lamp {
         tenths: u16,
         with_on_off: bool,
         scene: bool,
-        restore: Option<u8>,
+        put_back: Option<u8>,
     ) {
         let target = if target > 254 {
             target
@@ -743,7 +743,7 @@ impl Lamp {
         };
         if level == target {
             self.couple(target, with_on_off);
-            return self.restore_level(restore);
+            return self.put_level_back(put_back);
         }
         let millis = 100 * u32::from(tenths);
         self.ask_fade(Fade {
@@ -754,7 +754,7 @@ impl Lamp {
             tenths,
             millis_left: millis,
             period: millis / u32::from(target.abs_diff(level)),
-            restore,
+            put_back,
         });
     }
 
@@ -791,7 +791,7 @@ impl Lamp {
         self.write_remaining_time(fade.millis_left, start);
         if end {
             self.rest();
-            return self.restore_level(fade.restore);
+            return self.put_level_back(fade.put_back);
         }
         let until = since + 1000 * u64::from(fade.period);
         if until >= self.now {
@@ -803,7 +803,7 @@ impl Lamp {
     }
 
     /// What follows an off fade that came to its end.
-    fn restore_level(&mut self, before: Option<u8>) {
+    fn put_level_back(&mut self, before: Option<u8>) {
         if before.is_some() && self.attributes.on_level.is_none() {
             self.store_level(before);
             self.actions.push(Action::L);

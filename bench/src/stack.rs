@@ -14,7 +14,7 @@ impl Stack {
         Self(Box::new(Area([PAINT; 1 << 20])))
     }
 
-    /// On x86-64, which the archive is for.
+    /// On x86-64, where the bench runs.
     pub fn call(&mut self, entry: Entry, records: &[u8], out: &mut [u8]) -> i32 {
         let top = self.0 .0.as_mut_ptr_range().end;
         let result: i32;

@@ -101,22 +101,22 @@ class Lamp:
     def clamp(self, target):
         return target if target > 254 else min(max(target, self.MIN), self.MAX)
 
-    def move_to_level(self, target, tenths, with_on_off=0, mask=0, override=0, scene=False, restore=None):
-        """The rules of Targets. `restore`: the level before an off change, in a list."""
+    def move_to_level(self, target, tenths, with_on_off=0, mask=0, override=0, scene=False, put_back=None):
+        """The rules of Targets. `put_back`: the level before an off change, in a list."""
         if target <= 254 and not self.should_continue(with_on_off, mask, override):
             return
         target = self.clamp(target)
         self.end_task()
         if self.level == target:
             self.update_coupled_on_off(target, with_on_off)
-            self.restore(restore)
+            self.put_back(put_back)
         elif self.level is None:
             self.fail(11)
         else:
             period = 100 * tenths // abs(target - self.level)
             self.task = SimpleNamespace(answered=self.fade_answered, ask=self.ask_fade, counter=self.level, target=target,
                                         tenths=tenths, millis=100 * tenths, period=period, with_on_off=with_on_off,
-                                        scene=scene, restore=restore)
+                                        scene=scene, put_back=put_back)
             self.ask_fade()
 
     def ask_fade(self):
@@ -142,11 +142,11 @@ class Lamp:
         self.actions += ['L'] * level_due + ['R'] * time_due
         if end:
             self.end_task()
-            self.restore(fade.restore)
+            self.put_back(fade.put_back)
         else:
             self.wait_or(self.ask_fade, 1000 * fade.period)
 
-    def restore(self, before):
+    def put_back(self, before):
         """What follows an off fade that came to its end."""
         if before and self.on_level is None:
             self.store(before[0])
@@ -280,7 +280,7 @@ class Lamp:
             self.ask(self.MIN)
         else:
             tenths = self.common if self.off_time is None else self.off_time
-            self.move_to_level(self.MIN, tenths, with_on_off=1, restore=[self.level])
+            self.move_to_level(self.MIN, tenths, with_on_off=1, put_back=[self.level])
 
     def event_8(self, e):
         level = self.decided(*(self.lists or scenes.named_lists(e)))

@@ -1,4 +1,4 @@
-"""Plays with a name: the small play (docs/RULES.md, Sheet), the questions with keys, and the points that were in doubt, each with the
+"""Plays with a name: the small play (docs/RULES.md, A play and a sheet), the questions with keys, and the points that were in doubt, each with the
 sheet that it must give. `decided N` is row N of docs/DECISIONS.md."""
 from plays.model import LAST_TIME as LAST
 from plays.model import SECOND

@@ -89,9 +89,9 @@ class CouplesOnceAMove(Lamp):
 
 
 class RestoresWithoutAReport(Lamp):
-    def restore(self, before):
+    def put_back(self, before):
         if before and self.level != before[0]:
-            super().restore(before)
+            super().put_back(before)
 
 
 class MovesTimeWhenRefused(Lamp):

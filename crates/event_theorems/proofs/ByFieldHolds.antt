@@ -9,15 +9,15 @@ use Rattle.transitions.specs.declared.events.Event.{Event}
 use Rattle.transitions.specs.declared.events.EventKind.{EventKind}
 use Rattle.transitions.specs.declared.events.EventKind.TheVariants as kind
 use Rattle.level_control.specs.Answer.{refused}
-use Rattle.level_control.specs.Causes.{turn_tests, move_tests, step_tests, command_tests_of}
-use Rattle.level_control.specs.Events.{run, number_of, event_of}
-use Rattle.level_control.specs.Rest.{on_level_set, default_move_rate_set, start_up_current_level_set}
+use Rattle.level_control.specs.Judge.{turn_tests, move_tests, step_tests, command_tests_of}
+use Rattle.level_control.specs.Handle.{run, number_of, event_of}
+use Rattle.level_control.specs.Setters.{on_level_set, default_move_rate_set, start_up_current_level_set}
 use Rattle.level_control.specs.State.{accept}
 use Rattle.level_control.specs.declared.state.LevelControlState.{LevelControlState}
-use Rattle.level_control.proofs.EventLaws.{stopped_in, event_refused, event_stopped, event_runs, turn_passes, command_passes, TurnPasses, CommandPasses}
+use Rattle.level_control.proofs.EventLaws.{options_stop_in, event_refused, event_options_stop, event_runs, turn_passes, command_passes, TurnPasses, CommandPasses}
 use Rattle.event_theorems.specs.Brings.{brings}
 use Rattle.event_theorems.specs.ByField.{ByField}
-use Rattle.event_theorems.proofs.NumberLaws.{number_is, stopped_is}
+use Rattle.event_theorems.proofs.NumberLaws.{number_is, options_stop_is}
 use Rattle.event_theorems.proofs.RunLaws.{gives, move_to_level_gives, move_gives, step_gives, turned_gives, scene_gives, start_up_gives, wake_gives, stop_gives, update_gives, set_gives, reset_gives}
 use Rattle.event_theorems.proofs.AnswerLaws.{answer_gives}
 use Rattle.transitions.specs.declared.events.Command.TheVariants as command
@@ -42,7 +42,7 @@ module _ (s : LevelControlState) (at : Micros) (on : Bool) where
   run_gives (kind.Command (command.SetStartUpCurrentLevel level)) turn command = set_gives s at on _
   run_gives (kind.Command command.FactoryReset) turn command = reset_gives s at on
 
-pub runs_by : (s : LevelControlState) (e : Event) → number_of s e ≡ 0 → stopped_in s e ≡ false → event_of s e ≡ gives s (brings s e.kind) e.moment.at e.moment.on_off
+pub runs_by : (s : LevelControlState) (e : Event) → number_of s e ≡ 0 → options_stop_in s e ≡ false → event_of s e ≡ gives s (brings s e.kind) e.moment.at e.moment.on_off
 unfolding number_of
 runs_by s e z q =
     event_runs s e z q ∙ run_gives s e.moment.at e.moment.on_off e.kind (turn_passes _ _ z) (command_passes _ _ z q)
@@ -50,6 +50,6 @@ runs_by s e z q =
 pub by_field : ByField
 by_field = record {
   refuses = λ s e h. event_refused s e (λ z. h (sym (number_is s e) ∙ z)) ∙ ap (λ (n : ℕ). refused s n) (number_is s e);
-  stops = λ s e z q. event_stopped s e (number_is s e ∙ z) (stopped_is s e ∙ q);
-  runs = λ s e z q. runs_by s e (number_is s e ∙ z) (stopped_is s e ∙ q);
+  stops = λ s e z q. event_options_stop s e (number_is s e ∙ z) (options_stop_is s e ∙ q);
+  runs = λ s e z q. runs_by s e (number_is s e ∙ z) (options_stop_is s e ∙ q);
 }

@@ -8,7 +8,7 @@ use native.Mathlib.Omega.{arith}
 use borrow.Author.Tests.{eqb-true, lt-ltb, le-ltb}
 use lib.Dec.{eqb, ltb}
 use Rattle.units.specs.declared.Micros.{Micros}
-use Rattle.transitions.specs.Events.{act, act_if, act_coupled}
+use Rattle.transitions.specs.Actions.{act, act_if, act_coupled}
 use Rattle.transitions.specs.Fade.{fade_period, next_level}
 use Rattle.transitions.specs.Matter.{changed}
 use Rattle.transitions.specs.Tasks.{begin_fade, fade_from, next_move}
@@ -17,7 +17,7 @@ use Rattle.transitions.specs.declared.actions.Action.{Action}
 use Rattle.transitions.specs.declared.actions.ActionKind.TheVariants.{E, L, P, R, S}
 use Rattle.transitions.specs.declared.tasks.Begin.TheVariants as begin
 use Rattle.transitions.specs.declared.tasks.FadeRequest.{FadeRequest}
-use Rattle.transitions.specs.declared.tasks.MoveCourse.{MoveCourse}
+use Rattle.transitions.specs.declared.tasks.Motion.{Motion}
 use Rattle.transitions.specs.declared.tasks.MoveStep.TheVariants as step
 use Rattle.transitions.specs.declared.tasks.Phase.TheVariants.{Asked}
 use Rattle.transitions.specs.declared.tasks.Task.TheVariants as task
@@ -28,14 +28,14 @@ use Rattle.transitions.specs.Actions.{reports_of}
 use Rattle.level_control.specs.Answer.{Outcome, done}
 use Rattle.level_control.specs.Moves as moves
 use Rattle.level_control.specs.Moves.{move_by, move_goes_on}
-use Rattle.level_control.specs.Reports.{coupled_by}
+use Rattle.level_control.specs.Coupling.{coupled_by}
 use Rattle.level_control.specs.State.{with_task}
 use Rattle.level_control.specs.Targets.{go_to_by, go_to}
 use Rattle.transitions.specs.Actions.{Reports}
 use Rattle.level_control.specs.Reports.{Told}
 use Rattle.level_control.specs.declared.state.LevelControlState.{LevelControlState}
-use Rattle.event_theorems.specs.Course as course
-use Rattle.event_theorems.specs.Course.{Course, task_on, course_letter, towards}
+use Rattle.event_theorems.specs.TaskAfter as becomes
+use Rattle.event_theorems.specs.TaskAfter.{TaskAfter, task_on, task_letter, towards}
 use Rattle.event_theorems.specs.Letters.{couples, couples_reached, leaves_min, reached}
 
 -- what is told, letter by letter
@@ -65,9 +65,9 @@ unfolding same_level
 changed_is l (Some v) = changed_to l v
 changed_is l None = changed_away l
 
--- a state whose task goes a course, with some actions before the course's letter
-abbrev pub goes : LevelControlState → Course → List Action → Outcome
-goes s c l = done (with_task s (task_on c s.task)) (l ++ course_letter c)
+-- a state with what becomes of its task, and some actions before the letter of that
+abbrev pub goes : LevelControlState → TaskAfter → List Action → Outcome
+goes s c l = done (with_task s (task_on c s.task)) (l ++ task_letter c)
 
 same_actions : (s : LevelControlState) (l m : List Action) → l ≡ m → done s l ≡ done s m
 same_actions s l m e = ap (λ (x : List Action). done s x) e
@@ -75,27 +75,27 @@ same_actions s l m e = ap (λ (x : List Action). done s x) e
 no_others : (l m : List Action) → l ++ m ≡ ((l ++ []) ++ []) ++ m
 no_others l m = ap (λ (x : List Action). x ++ m) (sym (append-nil (l ++ []) ∙ append-nil l))
 
--- a target: what is told first, C, L, and the course
+-- a target: what is told first, C, L, and what becomes of the task
 pub go_to_is : (t : Told) (r : FadeRequest) (at : Micros) (on : Bool) (l : Level) → t.state.current_level ≡ l
     → go_to t r at on
-    ≡ goes t.state (towards l r.target r.transition_time.0 r.with_on_off r.scene_apply r.restores at)
+    ≡ goes t.state (towards l r.target r.transition_time.0 r.with_on_off r.scene_apply r.puts_back at)
     (reports_of t.reports
     ++ act_coupled (couples_reached l r.target r.with_on_off t.state.settings on)
-    ++ act_if (reached l r.target && (r.restores && is_missing t.state.attributes.on_level)) L)
+    ++ act_if (reached l r.target && (r.puts_back && is_missing t.state.attributes.on_level)) L)
 unfolding go_to begin_fade coupled_by fade_from fade_period
 go_to_is t r at on (Some c) e = ap (λ (x : Level). go_to_by (begin_fade x r at) t r on) e ∙ by (eqb c r.target)
   where
-    starts : Course
+    starts : TaskAfter
     starts =
-        course.Asks (next_level c r.target r.transition_time)
-        (task.Fade (course.fade_over c r.target r.transition_time.0 r.with_on_off r.scene_apply r.restores at))
+        becomes.Asks (next_level c r.target r.transition_time)
+        (task.Fade (becomes.fade_over c r.target r.transition_time.0 r.with_on_off r.scene_apply r.puts_back at))
 
     by : (b : Bool)
         → go_to_by (cond b begin.Reached (begin.Starts (fade_from c r at))) t r on
-        ≡ goes t.state (cond b course.AtRest starts)
+        ≡ goes t.state (cond b becomes.AtRest starts)
         (reports_of t.reports
         ++ act_coupled (cond b (couples t.state.settings r.with_on_off on r.target) None)
-        ++ act_if (b && (r.restores && is_missing t.state.attributes.on_level)) L)
+        ++ act_if (b && (r.puts_back && is_missing t.state.attributes.on_level)) L)
     by true = same_actions _ _ _ (sym (append-nil _))
     by false = same_actions _ _ _ (no_others (reports_of t.reports) _)
 go_to_is t r at on None e =
@@ -125,27 +125,27 @@ leaves_down s c with_on_off on e =
     by true q = let same : c ≡ s.settings.range.min = eqb-true _ _ q in rw (le-ltb s.settings.range.min (c - 1) (omega arith)) refl
     by false q = refl
 
--- a move: what is told first, C, and the course
-pub move_is : (t : Told) (m : MoveCourse) (at : Micros) (on : Bool) (l : Level) → t.state.current_level ≡ l
+-- a move: what is told first, C, and what becomes of the task
+pub move_is : (t : Told) (m : Motion) (at : Micros) (on : Bool) (l : Level) → t.state.current_level ≡ l
     → move_goes_on t m at on
-    ≡ goes t.state (course.step m m.mode l at) (reports_of t.reports ++ act_coupled (leaves_min m.mode l m t.state.settings on))
+    ≡ goes t.state (becomes.step m m.mode l at) (reports_of t.reports ++ act_coupled (leaves_min m.mode l m t.state.settings on))
 unfolding move_goes_on next_move
 move_is t m at on l e = ap (λ (x : Level). move_by (next_move x m.mode) t m at on) e ∙ from m.mode l e
   where
     up : (c : ℕ) → t.state.current_level ≡ Some c → (b : Bool) → move_by (cond b (step.Asks (c + 1)) step.Ends) t m at on
-        ≡ goes t.state (cond b (course.Asks (c + 1) (task.Move (record { course = m; asked = c + 1; phase = Asked at }))) course.AtRest)
+        ≡ goes t.state (cond b (becomes.Asks (c + 1) (task.Move (record { motion = m; asked = c + 1; phase = Asked at }))) becomes.AtRest)
         (reports_of t.reports ++ act_coupled (cond (eqb c t.state.settings.range.min && b) (couples t.state.settings m.with_on_off on (c + 1)) None))
     up c e true = same_actions _ _ _ (rw (leaves_up t.state c m.with_on_off on e) refl)
     up c e false = same_actions _ _ _ (rw (and-false (eqb c t.state.settings.range.min)) (sym (append-nil _ ∙ append-nil _)))
 
     down : (c : ℕ) → t.state.current_level ≡ Some c → (b : Bool) → move_by (cond b (step.Asks (c - 1)) step.Ends) t m at on
-        ≡ goes t.state (cond b (course.Asks (c - 1) (task.Move (record { course = m; asked = c - 1; phase = Asked at }))) course.AtRest)
+        ≡ goes t.state (cond b (becomes.Asks (c - 1) (task.Move (record { motion = m; asked = c - 1; phase = Asked at }))) becomes.AtRest)
         (reports_of t.reports ++ act_coupled None)
     down c e true = same_actions _ _ _ (rw (leaves_down t.state c m.with_on_off on e) refl)
     down c e false = same_actions _ _ _ (sym (append-nil _ ∙ append-nil _))
 
     from : (x : Mode) (l : Level) → t.state.current_level ≡ l → move_by (next_move l x) t m at on
-        ≡ goes t.state (course.step m x l at) (reports_of t.reports ++ act_coupled (leaves_min x l m t.state.settings on))
+        ≡ goes t.state (becomes.step m x l at) (reports_of t.reports ++ act_coupled (leaves_min x l m t.state.settings on))
     from Up (Some c) e = up c e (ltb c 255)
     from Down (Some c) e = down c e (ltb 0 c)
     from Up None e = same_actions _ _ _ (ap (λ (x : List Action). x ++ act E 11) (sym (append-nil (reports_of t.reports))))

@@ -25,16 +25,16 @@ use Rattle.transitions.specs.declared.tasks.Task.TheVariants as task
 use Rattle.transitions.specs.Types.{Level}
 use Rattle.transitions.specs.Types.{Rate}
 use Rattle.transitions.specs.Types.{Time}
-use Rattle.level_control.specs.Causes.{time_refused, turn_tests, move_to_level_tests, move_tests, overflows_from, step_overflows, step_tests, stop_tests, scene_tests, level_tests, rate_tests, command_tests_of}
-use Rattle.level_control.specs.Events.{number_of}
+use Rattle.level_control.specs.Judge.{time_refused, turn_tests, move_to_level_tests, move_tests, overflows_from, step_overflows, step_tests, stop_tests, scene_tests, level_tests, rate_tests, command_tests_of}
+use Rattle.level_control.specs.Handle.{number_of}
 use Rattle.level_control.specs.Moves.{rate_by}
 use Rattle.level_control.specs.Starts.{distance, step_to}
 use Rattle.level_control.specs.Targets.{stepped_time}
 use Rattle.level_control.specs.declared.state.LevelControlState.{LevelControlState}
-use Rattle.level_control.proofs.EventLaws.{stopped_in}
+use Rattle.level_control.proofs.EventLaws.{options_stop_in}
 use Rattle.level_control.proofs.StartLaws.{continues_is, step_is}
-use Rattle.event_theorems.specs.Table.{asked, request_open, ended, wait_over, product_too_large, outside, is_rate0, number_by}
-use Rattle.event_theorems.specs.ByField.{stopped}
+use Rattle.event_theorems.specs.Table.{phase_asked, request_open, ended, wait_over, product_too_large, outside, is_rate0, number_by}
+use Rattle.event_theorems.specs.ByField.{options_stop}
 use Rattle.transitions.specs.declared.causes.Refusal.TheVariants.{InvalidCommand}
 use Rattle.transitions.specs.declared.events.Command.TheVariants as command
 
@@ -43,12 +43,12 @@ open_is task.Rest = refl
 open_is task.StartUp = refl
 open_is (task.Fade f) = by f.phase
   where
-    by : (p : Phase) → phase_open p ≡ asked p
+    by : (p : Phase) → phase_open p ≡ phase_asked p
     by (Asked since) = refl
     by (Waiting until) = refl
 open_is (task.Move m) = by m.phase
   where
-    by : (p : Phase) → phase_open p ≡ asked p
+    by : (p : Phase) → phase_open p ≡ phase_asked p
     by (Asked since) = refl
     by (Waiting until) = refl
 open_is (task.OnReaction r) = refl
@@ -142,32 +142,32 @@ module _ (s : LevelControlState) (at : Micros) (on : Bool) where
   number_at (kind.Command command.FactoryReset) = rw (open_is s.task) refl
 
   -- the row of the options
-  stopped_at : (k : EventKind) → stopped_in s (event at on k) ≡ stopped s (event at on k)
+  options_stop_at : (k : EventKind) → options_stop_in s (event at on k) ≡ options_stop s (event at on k)
   unfolding command_tests_of move_to_level_tests move_tests step_tests stop_tests scene_tests level_tests rate_tests
-  stopped_at kind.StartUp = refl
-  stopped_at (kind.Command (command.MoveToLevel r)) =
+  options_stop_at kind.StartUp = refl
+  options_stop_at (kind.Command (command.MoveToLevel r)) =
       rw (continues_is s r.options.with_on_off on r.options.options_mask r.options.options_override) (sym (or-false _))
-  stopped_at (kind.Command (command.Move r)) = rw (continues_is s r.options.with_on_off on r.options.options_mask r.options.options_override) (sym (or-false _))
-  stopped_at (kind.Command (command.Step r)) = rw (continues_is s r.options.with_on_off on r.options.options_mask r.options.options_override) (sym (or-false _))
-  stopped_at (kind.Command (command.Stop r)) = rw (continues_is s r.with_on_off on r.options_mask r.options_override) (sym (or-false _))
-  stopped_at (kind.Answer a) = refl
-  stopped_at kind.Wake = refl
-  stopped_at (kind.Command (command.OnOffChanged value)) = refl
-  stopped_at (kind.Command (command.Scene r)) = by r.level
+  options_stop_at (kind.Command (command.Move r)) = rw (continues_is s r.options.with_on_off on r.options.options_mask r.options.options_override) (sym (or-false _))
+  options_stop_at (kind.Command (command.Step r)) = rw (continues_is s r.options.with_on_off on r.options.options_mask r.options.options_override) (sym (or-false _))
+  options_stop_at (kind.Command (command.Stop r)) = rw (continues_is s r.with_on_off on r.options_mask r.options_override) (sym (or-false _))
+  options_stop_at (kind.Answer a) = refl
+  options_stop_at kind.Wake = refl
+  options_stop_at (kind.Command (command.OnOffChanged value)) = refl
+  options_stop_at (kind.Command (command.Scene r)) = by r.level
     where
-      by : (l : Level) → stopped_in s (event at on (kind.Command (command.Scene (record { level = l; transition_time = r.transition_time }))))
-          ≡ stopped s (event at on (kind.Command (command.Scene (record { level = l; transition_time = r.transition_time }))))
+      by : (l : Level) → options_stop_in s (event at on (kind.Command (command.Scene (record { level = l; transition_time = r.transition_time }))))
+          ≡ options_stop s (event at on (kind.Command (command.Scene (record { level = l; transition_time = r.transition_time }))))
       by (Some level) = rw (continues_is s false on (record { 0 = 0 }) (record { 0 = 0 })) (sym (or-false _))
       by None = refl
-  stopped_at (kind.Command (command.DeviceUpdate level)) = refl
-  stopped_at (kind.Command command.DeviceStop) = refl
-  stopped_at (kind.Command (command.SetOnLevel level)) = refl
-  stopped_at (kind.Command (command.SetDefaultMoveRate r)) = refl
-  stopped_at (kind.Command (command.SetStartUpCurrentLevel level)) = refl
-  stopped_at (kind.Command command.FactoryReset) = refl
+  options_stop_at (kind.Command (command.DeviceUpdate level)) = refl
+  options_stop_at (kind.Command command.DeviceStop) = refl
+  options_stop_at (kind.Command (command.SetOnLevel level)) = refl
+  options_stop_at (kind.Command (command.SetDefaultMoveRate r)) = refl
+  options_stop_at (kind.Command (command.SetStartUpCurrentLevel level)) = refl
+  options_stop_at (kind.Command command.FactoryReset) = refl
 
 pub number_is : (s : LevelControlState) (e : Event) → number_of s e ≡ number_by s e
 number_is s e = number_at s e.moment.at e.moment.on_off e.kind
 
-pub stopped_is : (s : LevelControlState) (e : Event) → stopped_in s e ≡ stopped s e
-stopped_is s e = stopped_at s e.moment.at e.moment.on_off e.kind
+pub options_stop_is : (s : LevelControlState) (e : Event) → options_stop_in s e ≡ options_stop s e
+options_stop_is s e = options_stop_at s e.moment.at e.moment.on_off e.kind

@@ -11,9 +11,9 @@ use Rattle.units.specs.declared.Micros.{Micros}
 use Rattle.units.specs.declared.Tenths.{Tenths}
 use Rattle.transitions.specs.Commands.{target_level, is_invalid}
 use Rattle.transitions.specs.CurrentLevel.{second, current_level_due}
-use Rattle.transitions.specs.Events.{act, act_if, act_coupled}
+use Rattle.transitions.specs.Actions.{act, act_if, act_coupled}
 use Rattle.transitions.specs.Matter.{changed, move_rate}
-use Rattle.transitions.specs.Moves.{move_period}
+use Rattle.transitions.specs.MovePeriod.{move_period}
 use Rattle.transitions.specs.RemainingTime.{remaining_time_due}
 use Rattle.transitions.specs.Tasks.{at_limit, fade_asking}
 use Rattle.transitions.specs.Types.{is_missing, level_or, time_or}
@@ -33,23 +33,25 @@ use Rattle.transitions.proofs.MatterLaws.{matter_agrees}
 use Rattle.transitions.proofs.RuleLaws.{rule_laws}
 use Rattle.transitions.specs.Actions.{reports_of}
 use Rattle.level_control.specs.Answer.{Outcome, done}
-use Rattle.level_control.specs.Causes.{overflows_from, step_overflows}
-use Rattle.level_control.specs.Events.{woken_in, woken}
+use Rattle.level_control.specs.Judge.{overflows_from, step_overflows}
+use Rattle.level_control.specs.Handle.{woken_in, woken}
 use Rattle.level_control.specs.Fades.{fade_woken}
 use Rattle.level_control.specs.Moves.{move_at, begin_move, rate_by}
 use Rattle.level_control.specs.Reactions.{off_time, turned_on, turned_off, switched}
 use Rattle.level_control.specs.Reports.{level_due, set_level, write_remaining_time}
-use Rattle.level_control.specs.Rest.{start_up_or, start_up_level, start_up_at, started_up, updated, reset_all}
+use Rattle.level_control.specs.StartUp.{start_up_or, start_up_level, start_up_at, started_up}
+use Rattle.level_control.specs.Updates.{updated}
+use Rattle.level_control.specs.Setters.{reset_all}
 use Rattle.level_control.specs.Starts.{distance, given_or, step_in, target}
-use Rattle.level_control.specs.State.{accept, put_back, with_attributes, with_task}
+use Rattle.level_control.specs.State.{accept, reset_state, with_attributes, with_task}
 use Rattle.level_control.specs.Targets.{quiet, request_to, go_to, moved_to_level, recalled_at, recalled, stepped_by, stepped_from, stepped, stepped_level, stepped_time, stopped}
 use Rattle.transitions.specs.Actions.{Reports}
 use Rattle.level_control.specs.declared.state.LevelControlState.{LevelControlState}
 use Rattle.level_control.proofs.StartLaws.{target_is, given_is, step_is, takes}
-use Rattle.event_theorems.specs.Brings.{Brings, Command, Runs, Target, turned, scene_target, step_target}
+use Rattle.event_theorems.specs.Brings.{Brings, TaskEvent, Runs, Target, turned, scene_target, step_target}
 use Rattle.event_theorems.specs.Brings as bring
-use Rattle.event_theorems.specs.Course as course
-use Rattle.event_theorems.specs.Course.{command_course, course_letter, towards, task_on}
+use Rattle.event_theorems.specs.TaskAfter as becomes
+use Rattle.event_theorems.specs.TaskAfter.{task_after_command, task_letter, towards, task_on}
 use Rattle.event_theorems.specs.Fields.{next_state}
 use Rattle.event_theorems.specs.Letters.{couples_reached, reached, command_couples_first, command_reports, command_couples_last, leaves_min, wake_couples, letters}
 use Rattle.event_theorems.proofs.NumberLaws.{rate_is}
@@ -71,31 +73,31 @@ abbrev pub gives : LevelControlState → Brings → Micros → Bool → Outcome
 gives s b at on = done (next_state s b at) (letters s b at on)
 
 module _ (s : LevelControlState) (at : Micros) (on : Bool) where
-  -- a command gives its C, L, C and its course
-  command_gives : (c : Command)
-      → goes (accept s at) (command_course s c at) (act_coupled (command_couples_first c s on) ++ act_if (command_reports c s) L ++ act_coupled (command_couples_last c s on))
+  -- a command gives its C, L, C and the task's letter
+  command_gives : (c : TaskEvent)
+      → goes (accept s at) (task_after_command s c at) (act_coupled (command_couples_first c s on) ++ act_if (command_reports c s) L ++ act_coupled (command_couples_last c s on))
       ≡ gives s (Runs c) at on
-  unfolding next_state letters course.course level_or
+  unfolding next_state letters becomes.task_after level_or
   command_gives c =
-      ap (λ (l : List Action). done (with_task (accept s at) (task_on (command_course s c at) s.task)) l)
-      (append_assoc (act_coupled (command_couples_first c s on) ++ act_if (command_reports c s) L) (act_coupled (command_couples_last c s on)) (course_letter (command_course s c at))
-      ∙ append_assoc (act_coupled (command_couples_first c s on)) (act_if (command_reports c s) L) (act_coupled (command_couples_last c s on) ++ course_letter (command_course s c at)))
+      ap (λ (l : List Action). done (with_task (accept s at) (task_on (task_after_command s c at) s.task)) l)
+      (append_assoc (act_coupled (command_couples_first c s on) ++ act_if (command_reports c s) L) (act_coupled (command_couples_last c s on)) (task_letter (task_after_command s c at))
+      ∙ append_assoc (act_coupled (command_couples_first c s on)) (act_if (command_reports c s) L) (act_coupled (command_couples_last c s on) ++ task_letter (task_after_command s c at)))
 
-  target_gives : (level : ℕ) (time : Tenths) (t T : ℕ) (with_on_off scene restores : Bool)
+  target_gives : (level : ℕ) (time : Tenths) (t T : ℕ) (with_on_off scene puts_back : Bool)
       → target_level level s.settings.range.min s.settings.range.max ≡ t → time.0 ≡ T
-      → go_to (quiet (accept s at)) (request_to (accept s at) level time with_on_off scene restores) at on ≡ gives s (Runs (Target t T with_on_off scene restores)) at on
+      → go_to (quiet (accept s at)) (request_to (accept s at) level time with_on_off scene puts_back) at on ≡ gives s (Runs (Target t T with_on_off scene puts_back)) at on
   unfolding reports_of
-  target_gives level time t T with_on_off scene restores to within =
-      go_to_is (quiet (accept s at)) (request_to (accept s at) level time with_on_off scene restores) at on s.current_level refl
-      ∙ ap (λ (x : ℕ). goes (accept s at) (towards s.current_level x time.0 with_on_off scene restores at) (first x)) to
-      ∙ ap (λ (y : ℕ). goes (accept s at) (towards s.current_level t y with_on_off scene restores at) (first t)) within
-      ∙ ap (λ (l : List Action). goes (accept s at) (towards s.current_level t T with_on_off scene restores at) l) (sym (append-nil (first t)))
-      ∙ command_gives (Target t T with_on_off scene restores)
+  target_gives level time t T with_on_off scene puts_back to within =
+      go_to_is (quiet (accept s at)) (request_to (accept s at) level time with_on_off scene puts_back) at on s.current_level refl
+      ∙ ap (λ (x : ℕ). goes (accept s at) (towards s.current_level x time.0 with_on_off scene puts_back at) (first x)) to
+      ∙ ap (λ (y : ℕ). goes (accept s at) (towards s.current_level t y with_on_off scene puts_back at) (first t)) within
+      ∙ ap (λ (l : List Action). goes (accept s at) (towards s.current_level t T with_on_off scene puts_back at) l) (sym (append-nil (first t)))
+      ∙ command_gives (Target t T with_on_off scene puts_back)
     where
       first : ℕ → List Action
       first x =
           act_coupled (couples_reached s.current_level x with_on_off s.settings on)
-          ++ act_if (reached s.current_level x && (restores && is_missing s.attributes.on_level)) L
+          ++ act_if (reached s.current_level x && (puts_back && is_missing s.attributes.on_level)) L
 
   pub move_to_level_gives : (r : MoveToLevelRequest)
       → moved_to_level (accept s at) r at on ≡ gives s (Runs (Target (target s r.level) (given_or r.transition_time 0) r.options.with_on_off false false)) at on
@@ -122,16 +124,16 @@ module _ (s : LevelControlState) (at : Micros) (on : Bool) where
   unfolding started_up start_up_level
   start_up_gives = by s.attributes.start_up_current_level ∙ command_gives bring.StartUp
     where
-      stored : (c : Level) → start_up_at c (accept s at) ≡ goes (accept s at) (course.start_up None c s) []
+      stored : (c : Level) → start_up_at c (accept s at) ≡ goes (accept s at) (becomes.start_up None c s) []
       stored (Some level) = refl
       stored None = refl
 
-      by : (l : Level) → start_up_at (start_up_or l (accept s at)) (accept s at) ≡ goes (accept s at) (course.start_up l s.current_level s) []
+      by : (l : Level) → start_up_at (start_up_or l (accept s at)) (accept s at) ≡ goes (accept s at) (becomes.start_up l s.current_level s) []
       by (Some level) = refl
       by None = stored s.current_level
 
   pub stop_gives : stopped (accept s at) ≡ gives s bring.Stops at on
-  unfolding stopped write_remaining_time next_state letters course.course level_or
+  unfolding stopped write_remaining_time next_state letters becomes.task_after level_or
   stop_gives = ap (λ (l : List Action). done (next_state s bring.Stops at) l) (sym (append-nil _))
 
   pub step_gives : (r : StepRequest) → is_missing s.current_level ≡ false → step_overflows s r ≡ false
@@ -151,36 +153,36 @@ module _ (s : LevelControlState) (at : Micros) (on : Bool) where
   unfolding begin_move at_limit rate_by move_period reports_of
   move_gives r valid =
       ap (λ (b : Bool). cond b (done (accept s at) []) (move_at (rate_by (accept s at) r) (accept s at) r at on)) (limit r.mode s.current_level)
-      ∙ by (course.at_limit r.mode s.current_level s.settings)
+      ∙ by (becomes.at_limit r.mode s.current_level s.settings)
       ∙ command_gives (bring.Move r)
     where
-      limit : (m : Mode) (l : Level) → at_limit l m s.settings.range.min s.settings.range.max ≡ course.at_limit m l s.settings
+      limit : (m : Mode) (l : Level) → at_limit l m s.settings.range.min s.settings.range.max ≡ becomes.at_limit m l s.settings
       limit Up (Some c) = refl
       limit Up None = refl
       limit Down (Some c) = refl
       limit Down None = refl
 
       by : (b : Bool) → cond b (done (accept s at) []) (move_at (rate_by (accept s at) r) (accept s at) r at on)
-          ≡ goes (accept s at) (cond b course.AsItWas (course.step (course.course_of_move s r) r.mode s.current_level at))
-          (act_coupled (cond b None (leaves_min r.mode s.current_level (course.course_of_move s r) s.settings on)))
+          ≡ goes (accept s at) (cond b becomes.AsItWas (becomes.step (becomes.motion_of s r) r.mode s.current_level at))
+          (act_coupled (cond b None (leaves_min r.mode s.current_level (becomes.motion_of s r) s.settings on)))
       by true = refl
       by false =
           ap (λ (x : Result ℕ Refusal). move_at x (accept s at) r at on) (rate_goes s r valid)
-          ∙ move_is (quiet (accept s at)) (course.course_of_move s r) at on s.current_level refl
+          ∙ move_is (quiet (accept s at)) (becomes.motion_of s r) at on s.current_level refl
 
   pub wake_gives : woken (accept s at) at on ≡ gives s (Runs bring.Wake) at on
   unfolding woken fade_woken reports_of fade_asking
   wake_gives = by s.task ∙ command_gives bring.Wake
     where
-      by : (x : Task) → woken_in x (accept s at) at on ≡ goes (accept s at) (course.wake x s at) (act_coupled (wake_couples x s on))
+      by : (x : Task) → woken_in x (accept s at) at on ≡ goes (accept s at) (becomes.wake x s at) (act_coupled (wake_couples x s on))
       by task.Rest = refl
       by task.StartUp = refl
       by (task.Fade f) = refl
-      by (task.Move m) = move_is (quiet (accept s at)) m.course at on s.current_level refl
+      by (task.Move m) = move_is (quiet (accept s at)) m.motion at on s.current_level refl
       by (task.OnReaction r) = refl
 
   pub update_gives : (level : ℕ) → updated (accept s at) level at ≡ gives s (bring.Updates level) at on
-  unfolding updated set_level level_due current_level_due write_remaining_time next_state letters course.course level_or
+  unfolding updated set_level level_due current_level_due write_remaining_time next_state letters becomes.task_after level_or
   update_gives level =
       let changes : Bool → Bool → Reports =
       λ stored due. record {
@@ -198,9 +200,9 @@ module _ (s : LevelControlState) (at : Micros) (on : Bool) where
       ∙ told_letters (changes (changed s.current_level (Some level)) true) [])
 
   pub set_gives : (a : Attributes) → done (with_attributes (accept s at) a) (act K 0) ≡ gives s (bring.Sets a) at on
-  unfolding next_state letters course.course level_or
+  unfolding next_state letters becomes.task_after level_or
   set_gives a = refl
 
   pub reset_gives : reset_all (accept s at) ≡ gives s bring.Resets at on
-  unfolding reset_all put_back next_state letters course.course level_or
+  unfolding reset_all reset_state next_state letters becomes.task_after level_or
   reset_gives = refl

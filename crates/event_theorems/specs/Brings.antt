@@ -17,18 +17,18 @@ use Rattle.level_control.specs.declared.state.LevelControlState.{LevelControlSta
 use Rattle.transitions.specs.declared.events.Command.TheVariants as command
 
 -- what begins a task, or goes on with one
-pub data Command : Type 0 where
-  StartUp : Command
-  -- a target and the tenths to it; with on/off; of a scene; the level before it is stored back afterwards
-  Target : ℕ → ℕ → Bool → Bool → Bool → Command
+pub data TaskEvent : Type 0 where
+  StartUp : TaskEvent
+  -- a target and the tenths to it; with on/off; of a scene; the level before it is put back afterwards
+  Target : ℕ → ℕ → Bool → Bool → Bool → TaskEvent
   -- a scene without a value. A step from a missing level is refused
-  NoTarget : Command
-  Move : MoveRequest → Command
-  On : Command
-  Wake : Command
+  NoTarget : TaskEvent
+  Move : MoveRequest → TaskEvent
+  On : TaskEvent
+  Wake : TaskEvent
 
 pub data Brings : Type 0 where
-  Runs : Command → Brings
+  Runs : TaskEvent → Brings
   Stops : Brings
   Answers : DeviceAnswer → Brings
   Updates : ℕ → Brings
@@ -36,7 +36,7 @@ pub data Brings : Type 0 where
   Resets : Brings
 
 -- Steps: the result is then a target
-abbrev pub step_target : Level → LevelControlState → StepRequest → Command
+abbrev pub step_target : Level → LevelControlState → StepRequest → TaskEvent
 step_target (Some c) s r =
     Target (target s (step_to r.mode s c r.step_size))
     (step_in r.transition_time (distance (step_to r.mode s c r.step_size) c) r.step_size)
@@ -44,12 +44,12 @@ step_target (Some c) s r =
 step_target None s r = NoTarget
 
 -- Scenes: the time is milliseconds ÷ 100 rounded down, at most 65,535
-abbrev pub scene_target : Level → LevelControlState → ℕ → Command
+abbrev pub scene_target : Level → LevelControlState → ℕ → TaskEvent
 scene_target (Some level) s ms = Target (target s level) (min 65535 (ms / 100)) false true false
 scene_target None s ms = NoTarget
 
 -- Reactions: on asks the device for MIN; of off MIN is the target, and the level before may be put back
-abbrev pub turned : Bool → LevelControlState → Command
+abbrev pub turned : Bool → LevelControlState → TaskEvent
 turned true s = On
 turned false s =
     Target (target s s.settings.range.min)
@@ -128,24 +128,24 @@ abbrev pub level_before : Option ℕ → Level
 level_before None = None
 level_before (Some before) = Some before
 
-abbrev pub fade_back : DeviceAnswer → Bool → Level → Option ℕ → Level
-fade_back (device.Level v) true None after = level_before after
-fade_back (device.Level v) true (Some on) after = None
-fade_back (device.Level v) false on after = None
-fade_back device.Missing last on after = None
-fade_back device.Failed last on after = None
+abbrev pub fade_puts_back : DeviceAnswer → Bool → Level → Option ℕ → Level
+fade_puts_back (device.Level v) true None put_back = level_before put_back
+fade_puts_back (device.Level v) true (Some on) put_back = None
+fade_puts_back (device.Level v) false on put_back = None
+fade_puts_back device.Missing last on put_back = None
+fade_puts_back device.Failed last on put_back = None
 
-abbrev pub task_back : Task → LevelControlState → DeviceAnswer → Level
-task_back task.Rest s a = None
-task_back task.StartUp s a = None
-task_back (task.Fade f) s a = fade_back a (eqb f.counter f.target) s.attributes.on_level f.after
-task_back (task.Move m) s a = None
-task_back (task.OnReaction r) s a = None
+abbrev pub task_puts_back : Task → LevelControlState → DeviceAnswer → Level
+task_puts_back task.Rest s a = None
+task_puts_back task.StartUp s a = None
+task_puts_back (task.Fade f) s a = fade_puts_back a (eqb f.counter f.target) s.attributes.on_level f.put_back
+task_puts_back (task.Move m) s a = None
+task_puts_back (task.OnReaction r) s a = None
 
-abbrev pub stored_back : LevelControlState → Brings → Level
-stored_back s (Runs c) = None
-stored_back s Stops = None
-stored_back s (Answers a) = task_back s.task s a
-stored_back s (Updates level) = None
-stored_back s (Sets a) = None
-stored_back s Resets = None
+abbrev pub put_back_by : LevelControlState → Brings → Level
+put_back_by s (Runs c) = None
+put_back_by s Stops = None
+put_back_by s (Answers a) = task_puts_back s.task s a
+put_back_by s (Updates level) = None
+put_back_by s (Sets a) = None
+put_back_by s Resets = None

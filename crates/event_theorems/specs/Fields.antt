@@ -12,9 +12,9 @@ use Rattle.transitions.specs.declared.tasks.Task.{Task}
 use Rattle.transitions.specs.declared.tasks.Task.TheVariants as task
 use Rattle.transitions.specs.Types.{Level}
 use Rattle.level_control.specs.declared.state.LevelControlState.{LevelControlState}
-use Rattle.event_theorems.specs.Brings.{Brings, Tells, Nothing, Told, Failure, AtStartUp, tells, stored_back}
+use Rattle.event_theorems.specs.Brings.{Brings, Tells, Nothing, Told, Failure, AtStartUp, tells, put_back_by}
 use Rattle.event_theorems.specs.Brings as bring
-use Rattle.event_theorems.specs.Course.{course, task_on}
+use Rattle.event_theorems.specs.TaskAfter.{task_after, task_on}
 
 -- The level.
 
@@ -24,9 +24,9 @@ level_told (Told level end) before = level
 level_told Failure before = before
 level_told (AtStartUp level) before = level
 
--- what the device tells, but for what an off fade stores back
+-- what the device tells, but for what an off fade puts back
 abbrev pub level_after : LevelControlState → Brings → Level
-level_after s b = level_or (stored_back s b) (level_told (tells s b) s.current_level)
+level_after s b = level_or (put_back_by s b) (level_told (tells s b) s.current_level)
 
 -- The noted previous level.
 
@@ -111,5 +111,5 @@ next_state s b now = record {
   last_current_level_notification = reported_after s b now;
   last_accepted = now;
   started = true;
-  task = task_on (course s b now) s.task;
+  task = task_on (task_after s b now) s.task;
 }

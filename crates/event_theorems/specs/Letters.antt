@@ -2,7 +2,7 @@
 use Rattle.std.specs.Prelude.{ℕ, ◌+◌, ◌-◌, ◌*◌, Bool, true, false, cond, not, ◌&&◌, ◌||◌, List, [], ◌++◌, eqb, leb, ltb, Option, Some, None}
 use Rattle.units.specs.declared.Micros.{Micros}
 use Rattle.transitions.specs.Coupling.{coupled_on_off}
-use Rattle.transitions.specs.Events.{act, act_if, act_coupled}
+use Rattle.transitions.specs.Actions.{act, act_if, act_coupled}
 use Rattle.transitions.specs.Matter.{changed}
 use Rattle.transitions.specs.RemainingTime.{remaining_time_due}
 use Rattle.transitions.specs.Types.{is_missing}
@@ -13,7 +13,7 @@ use Rattle.transitions.specs.declared.events.DeviceAnswer.TheVariants as device
 use Rattle.transitions.specs.declared.settings.Settings.{Settings}
 use Rattle.transitions.specs.declared.tasks.Fade.{Fade}
 use Rattle.transitions.specs.declared.tasks.Move.{Move}
-use Rattle.transitions.specs.declared.tasks.MoveCourse.{MoveCourse}
+use Rattle.transitions.specs.declared.tasks.Motion.{Motion}
 use Rattle.transitions.specs.declared.tasks.Phase.{Phase}
 use Rattle.transitions.specs.declared.tasks.Phase.TheVariants.{Asked, Waiting}
 use Rattle.transitions.specs.declared.tasks.Task.{Task}
@@ -23,9 +23,9 @@ use Rattle.transitions.specs.declared.types.Mode.{Mode}
 use Rattle.transitions.specs.declared.types.Mode.TheVariants.{Up, Down}
 use Rattle.level_control.specs.Starts.{target}
 use Rattle.level_control.specs.declared.state.LevelControlState.{LevelControlState}
-use Rattle.event_theorems.specs.Brings.{Brings, Command, Tells, Nothing, Told, Failure, AtStartUp, is_end, tells, stored_back}
+use Rattle.event_theorems.specs.Brings.{Brings, TaskEvent, Tells, Nothing, Told, Failure, AtStartUp, is_end, tells, put_back_by}
 use Rattle.event_theorems.specs.Brings as bring
-use Rattle.event_theorems.specs.Course.{at_limit, course_of_move, course, course_letter}
+use Rattle.event_theorems.specs.TaskAfter.{at_limit, motion_of, task_after, task_letter}
 use Rattle.event_theorems.specs.Fields.{level_told, report_due, time_after}
 
 -- P: only if the level changed
@@ -80,20 +80,20 @@ fade_couples device.Missing f s on = None
 fade_couples device.Failed f s on = None
 
 -- a move couples before each request that leaves MIN upwards, by the asked level
-abbrev pub leaves_min : Mode → Level → MoveCourse → Settings → Bool → Option Bool
+abbrev pub leaves_min : Mode → Level → Motion → Settings → Bool → Option Bool
 leaves_min Up (Some c) m settings on = cond (eqb c settings.range.min && ltb c 255) (couples settings m.with_on_off on (c + 1)) None
 leaves_min Up None m settings on = None
 leaves_min Down level m settings on = None
 
 abbrev pub move_on_couples : Move → Phase → ℕ → Settings → Bool → Micros → Option Bool
 move_on_couples m (Asked since) v settings on now =
-    cond (leb (now.0 - since.0) m.course.period.0) None (leaves_min m.course.mode (Some v) m.course settings on)
+    cond (leb (now.0 - since.0) m.motion.period.0) None (leaves_min m.motion.mode (Some v) m.motion settings on)
 move_on_couples m (Waiting until) v settings on now = None
 
 -- and at its end, by the answered level
 abbrev pub move_couples : DeviceAnswer → Move → Settings → Bool → Micros → Option Bool
 move_couples (device.Level v) m settings on now =
-    cond (is_end m.asked settings) (couples settings m.course.with_on_off on v) (move_on_couples m m.phase v settings on now)
+    cond (is_end m.asked settings) (couples settings m.motion.with_on_off on v) (move_on_couples m m.phase v settings on now)
 move_couples device.Missing m settings on now = None
 move_couples device.Failed m settings on now = None
 
@@ -112,7 +112,7 @@ abbrev pub wake_couples : Task → LevelControlState → Bool → Option Bool
 wake_couples task.Rest s on = None
 wake_couples task.StartUp s on = None
 wake_couples (task.Fade f) s on = None
-wake_couples (task.Move m) s on = leaves_min m.course.mode s.current_level m.course s.settings on
+wake_couples (task.Move m) s on = leaves_min m.motion.mode s.current_level m.motion s.settings on
 wake_couples (task.OnReaction r) s on = None
 
 -- before L and R: a fade's answer, and a command whose target is reached
@@ -124,9 +124,9 @@ task_couples_first (task.Fade f) a s on = fade_couples a f s on
 task_couples_first (task.Move m) a s on = None
 task_couples_first (task.OnReaction r) a s on = None
 
-abbrev pub command_couples_first : Command → LevelControlState → Bool → Option Bool
+abbrev pub command_couples_first : TaskEvent → LevelControlState → Bool → Option Bool
 command_couples_first bring.StartUp s on = None
-command_couples_first (bring.Target t T with_on_off scene restores) s on = couples_reached s.current_level t with_on_off s.settings on
+command_couples_first (bring.Target t T with_on_off scene puts_back) s on = couples_reached s.current_level t with_on_off s.settings on
 command_couples_first bring.NoTarget s on = None
 command_couples_first (bring.Move r) s on = None
 command_couples_first bring.On s on = None
@@ -149,12 +149,12 @@ task_couples_last (task.Fade f) a s on now = None
 task_couples_last (task.Move m) a s on now = move_couples a m s.settings on now
 task_couples_last (task.OnReaction r) a s on now = on_couples a r.before s on
 
-abbrev pub command_couples_last : Command → LevelControlState → Bool → Option Bool
+abbrev pub command_couples_last : TaskEvent → LevelControlState → Bool → Option Bool
 command_couples_last bring.StartUp s on = None
-command_couples_last (bring.Target t T with_on_off scene restores) s on = None
+command_couples_last (bring.Target t T with_on_off scene puts_back) s on = None
 command_couples_last bring.NoTarget s on = None
 command_couples_last (bring.Move r) s on =
-    cond (at_limit r.mode s.current_level s.settings) None (leaves_min r.mode s.current_level (course_of_move s r) s.settings on)
+    cond (at_limit r.mode s.current_level s.settings) None (leaves_min r.mode s.current_level (motion_of s r) s.settings on)
 command_couples_last bring.On s on = None
 command_couples_last bring.Wake s on = wake_couples s.task s on
 
@@ -177,9 +177,9 @@ may_report (task.Fade f) device.Failed = false
 may_report (task.Move m) a = true
 may_report (task.OnReaction r) a = true
 
-abbrev pub command_reports : Command → LevelControlState → Bool
+abbrev pub command_reports : TaskEvent → LevelControlState → Bool
 command_reports bring.StartUp s = false
-command_reports (bring.Target t T with_on_off scene restores) s = reached s.current_level t && (restores && is_missing s.attributes.on_level)
+command_reports (bring.Target t T with_on_off scene puts_back) s = reached s.current_level t && (puts_back && is_missing s.attributes.on_level)
 command_reports bring.NoTarget s = false
 command_reports (bring.Move r) s = false
 command_reports bring.On s = false
@@ -216,9 +216,9 @@ reports_time s (bring.Sets a) = false
 reports_time s bring.Resets = false
 
 -- P L, of a level that an off fade puts back
-abbrev pub back_letters : Level → Level → List Action
-back_letters (Some before) told = act_if (changed told (Some before)) P ++ act L 0
-back_letters None told = []
+abbrev pub put_back_letters : Level → Level → List Action
+put_back_letters (Some before) told = act_if (changed told (Some before)) P ++ act L 0
+put_back_letters None told = []
 
 -- K: a setting is to be stored; X: the cluster is reported, its record removed
 abbrev pub setting_letter : Brings → List Action
@@ -237,6 +237,6 @@ letters s b now on =
     ++ (act_coupled (couples_first s b on)
     ++ (act_if (reports_level s b now) L
     ++ (act_if (reports_time s b) R
-    ++ (back_letters (stored_back s b) (level_told (tells s b) s.current_level)
+    ++ (put_back_letters (put_back_by s b) (level_told (tells s b) s.current_level)
     ++ (act_coupled (couples_last s b on now)
-    ++ course_letter (course s b now))))))))
+    ++ task_letter (task_after s b now))))))))

@@ -43,15 +43,15 @@ is_kind n e = eqb (kind_number e.kind) n
 
 -- a request to the device is open
 
-abbrev pub asked : Phase → Bool
-asked (Asked since) = true
-asked (Waiting until) = false
+abbrev pub phase_asked : Phase → Bool
+phase_asked (Asked since) = true
+phase_asked (Waiting until) = false
 
 abbrev pub request_open : Task → Bool
 request_open task.Rest = false
 request_open task.StartUp = true
-request_open (task.Fade f) = asked f.phase
-request_open (task.Move m) = asked m.phase
+request_open (task.Fade f) = phase_asked f.phase
+request_open (task.Move m) = phase_asked m.phase
 request_open (task.OnReaction r) = true
 
 -- a wake is waited for, and its time has come

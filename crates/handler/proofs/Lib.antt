@@ -1,1 +1,2 @@
+-- The files of lemmas, each over those before it.
 pub mod SetterLaws

@@ -11,9 +11,9 @@ use Rattle.transitions.specs.declared.events.Event.{Event}
 use Rattle.transitions.specs.declared.events.EventKind.TheVariants as kind
 use Rattle.transitions.specs.declared.types.Moment.{Moment}
 use Rattle.level_control.specs.Answer.{Outcome, answer_of, packed, refusal_of}
-use Rattle.level_control.specs.Causes.{time_refused, turn_tests, level_tests, rate_tests, command_tests_of}
-use Rattle.level_control.specs.Events.{number_of, run}
-use Rattle.level_control.specs.Rest.{on_level_set, default_move_rate_set, start_up_current_level_set}
+use Rattle.level_control.specs.Judge.{time_refused, turn_tests, level_tests, rate_tests, command_tests_of}
+use Rattle.level_control.specs.Handle.{number_of, run}
+use Rattle.level_control.specs.Setters.{on_level_set, default_move_rate_set, start_up_current_level_set}
 use Rattle.level_control.specs.declared.state.LevelControlState.{LevelControlState}
 use Rattle.level_control.proofs.EventLaws.{event_number, event_runs}
 use Rattle.handler.specs.Answers.{OnLevelSet, DefaultMoveRateSet, StartUpCurrentLevelSet, command_answer}

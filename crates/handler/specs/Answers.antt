@@ -6,7 +6,7 @@ use Rattle.transitions.specs.declared.events.EventKind.{EventKind}
 use Rattle.transitions.specs.declared.events.EventKind.TheVariants as kind
 use Rattle.transitions.specs.declared.types.Moment.{Moment}
 use Rattle.level_control.specs.Answer.{packed}
-use Rattle.level_control.specs.Events.{event_of}
+use Rattle.level_control.specs.Handle.{event_of}
 use Rattle.level_control.specs.declared.answer.Answer.{Answer}
 use Rattle.level_control.specs.declared.state.LevelControlState.{LevelControlState}
 

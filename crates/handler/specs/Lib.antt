@@ -1,1 +1,2 @@
+-- The pages of definitions, each over those before it.
 pub mod Answers

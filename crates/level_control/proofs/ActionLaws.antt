@@ -11,7 +11,7 @@ use Rattle.std.proofs.lemmas.List.{take_all}
 use Rattle.units.specs.declared.Micros.{Micros}
 use Rattle.transitions.specs.Actions.{Reports, held, held_if, held_coupled, reports_of}
 use Rattle.transitions.specs.Causes.{refusal_number}
-use Rattle.transitions.specs.Events.{act, act_if, act_coupled}
+use Rattle.transitions.specs.Actions.{act, act_if, act_coupled}
 use Rattle.transitions.specs.Tasks.{begin_fade}
 use Rattle.transitions.specs.Types.{Level, is_missing}
 use Rattle.transitions.specs.declared.actions.Action.{Action}
@@ -24,14 +24,14 @@ use Rattle.transitions.specs.declared.tasks.Begin.TheVariants as begin
 use Rattle.transitions.specs.declared.tasks.Fade.{Fade}
 use Rattle.transitions.specs.declared.tasks.FadeRequest.{FadeRequest}
 use Rattle.transitions.specs.declared.tasks.Move.{Move}
-use Rattle.transitions.specs.declared.tasks.MoveCourse.{MoveCourse}
+use Rattle.transitions.specs.declared.tasks.Motion.{Motion}
 use Rattle.transitions.specs.declared.tasks.MoveStep.{MoveStep}
 use Rattle.transitions.specs.declared.tasks.MoveStep.TheVariants as step
 use Rattle.transitions.specs.declared.tasks.OnReaction.{OnReaction}
 use Rattle.level_control.specs.Answer.{done, after, refusal_of}
 use Rattle.level_control.specs.Reports.{Told}
 use Rattle.level_control.specs.Targets.{quiet, go_to, go_to_by}
-use Rattle.level_control.specs.Fades.{restored, fade_ended, fade_ended_by, fade_goes_on, fade_then}
+use Rattle.level_control.specs.Fades.{ended_put_back, fade_ended, fade_ended_by, fade_goes_on, fade_then}
 use Rattle.level_control.specs.Moves.{move_by, move_goes_on, move_next, move_then}
 use Rattle.level_control.specs.Reactions.{on_to, on_goes_on}
 
@@ -181,15 +181,15 @@ module _ (t : Told) where
       by (Some until) = refl
       by None = refl
 
-  pub fade_ended_after : (restores : Option ℕ) → fade_ended t restores ≡ after (reports_of t.reports) (fade_ended (quiet t.state) restores)
-  unfolding fade_ended restored reports_of
-  fade_ended_after restores = by _
+  pub fade_ended_after : (puts_back : Option ℕ) → fade_ended t puts_back ≡ after (reports_of t.reports) (fade_ended (quiet t.state) puts_back)
+  unfolding fade_ended ended_put_back reports_of
+  fade_ended_after puts_back = by _
     where
       by : (back : Level) → fade_ended_by back t ≡ after (reports_of t.reports) (fade_ended_by back (quiet t.state))
       by (Some before) = ap (done _) (simp append_assoc)
       by None = ap (done _) (sym (append-nil (reports_of t.reports)))
 
-  pub move_goes_on_after : (m : MoveCourse) (at : Micros) (on : Bool) → move_goes_on t m at on ≡ after (reports_of t.reports) (move_goes_on (quiet t.state) m at on)
+  pub move_goes_on_after : (m : Motion) (at : Micros) (on : Bool) → move_goes_on t m at on ≡ after (reports_of t.reports) (move_goes_on (quiet t.state) m at on)
   unfolding move_goes_on reports_of
   move_goes_on_after m at on = by _
     where
@@ -204,7 +204,7 @@ module _ (t : Told) where
     where
       by : (n : Option Micros) → move_next n t m at on ≡ after (reports_of t.reports) (move_next n (quiet t.state) m at on)
       by (Some until) = refl
-      by None = move_goes_on_after m.course at on
+      by None = move_goes_on_after m.motion at on
 
   pub on_goes_on_after : (r : OnReaction) (at : Micros) (on : Bool) → on_goes_on t r at on ≡ after (reports_of t.reports) (on_goes_on (quiet t.state) r at on)
   unfolding on_goes_on reports_of

@@ -10,7 +10,7 @@ use lib.Dec.{eqb}
 use Rattle.units.specs.declared.Micros.{Micros}
 use Rattle.transitions.specs.Causes.{event_tests, first_cause}
 use Rattle.transitions.specs.Fade.{wait_or_ask}
-use Rattle.transitions.specs.Tasks.{begin_fade, fade_last, fade_next, level_to_restore, next_move, at_limit}
+use Rattle.transitions.specs.Tasks.{begin_fade, fade_last, fade_next, level_to_put_back, next_move, at_limit}
 use Rattle.transitions.specs.Types.{level_or}
 use Rattle.transitions.specs.Causes.{CommandTests}
 use Rattle.transitions.specs.Causes.{TurnTests}
@@ -25,7 +25,7 @@ use Rattle.transitions.specs.declared.tasks.Begin.TheVariants as begin
 use Rattle.transitions.specs.declared.tasks.Fade.{Fade}
 use Rattle.transitions.specs.declared.tasks.FadeRequest.{FadeRequest}
 use Rattle.transitions.specs.declared.tasks.Move.{Move}
-use Rattle.transitions.specs.declared.tasks.MoveCourse.{MoveCourse}
+use Rattle.transitions.specs.declared.tasks.Motion.{Motion}
 use Rattle.transitions.specs.declared.tasks.MoveStep.{MoveStep}
 use Rattle.transitions.specs.declared.tasks.MoveStep.TheVariants as step
 use Rattle.transitions.specs.declared.tasks.OnReaction.{OnReaction}
@@ -38,12 +38,14 @@ use Rattle.level_control.specs.State.{accept}
 use Rattle.level_control.specs.Answer.{Outcome, done, refused}
 use Rattle.level_control.specs.Reports.{told_level}
 use Rattle.level_control.specs.Targets.{go_to_by, go_to, moved_to_level, stepped_by, stepped_from, stepped, stepped_time, recalled_at, recalled, stopped}
-use Rattle.level_control.specs.Fades.{restored, fade_ended_by, fade_ended, fade_then, fade_goes_on, fade_told, move_to_level_transition, fade_missing, device_failed, fade_answered, fade_woken}
+use Rattle.level_control.specs.Fades.{ended_put_back, fade_ended_by, fade_ended, fade_then, fade_goes_on, fade_told, move_to_level_transition, fade_missing, device_failed, fade_answered, fade_woken}
 use Rattle.level_control.specs.Moves.{move_by, move_goes_on, move_at, begin_move, move_next, move_then, move_ends, move_transition, move_missing, move_answered, rate_by}
 use Rattle.level_control.specs.Reactions.{turned_on, on_to, on_goes_on, on_answered, turned_off, switched}
-use Rattle.level_control.specs.Rest.{start_up_level, start_up_at, started_up, stored_start_up, start_up_answered, updated, on_level_set, default_move_rate_set, start_up_current_level_set, reset_all}
-use Rattle.level_control.specs.Causes.{command_tests_of}
-use Rattle.level_control.specs.Events.{fade_answered_in, move_answered_in, answered_in, answered, woken_in, woken, run, number_of, event_of}
+use Rattle.level_control.specs.StartUp.{start_up_level, start_up_at, started_up, stored_start_up, start_up_answered}
+use Rattle.level_control.specs.Updates.{updated}
+use Rattle.level_control.specs.Setters.{on_level_set, default_move_rate_set, start_up_current_level_set, reset_all}
+use Rattle.level_control.specs.Judge.{command_tests_of}
+use Rattle.level_control.specs.Handle.{fade_answered_in, move_answered_in, answered_in, answered, woken_in, woken, run, number_of, event_of}
 use Rattle.level_control.specs.Reports.{Told}
 use Rattle.level_control.specs.declared.state.LevelControlState.{LevelControlState}
 use Rattle.units.specs.declared.Tenths.{Tenths}
@@ -80,9 +82,9 @@ stepped_zero s r at on = by s.current_level
     by (Some level) = takes level (stepped_time s level r)
     by None = refl
 
-ended_zero : (t : Told) (after : Option ℕ) → Zero (fade_ended t after)
-unfolding fade_ended restored
-ended_zero t after = by (level_to_restore after t.state.attributes.on_level)
+ended_zero : (t : Told) (put_back : Option ℕ) → Zero (fade_ended t put_back)
+unfolding fade_ended ended_put_back
+ended_zero t put_back = by (level_to_put_back put_back t.state.attributes.on_level)
   where
     by : (l : Level) → Zero (fade_ended_by l t)
     by (Some before) = refl
@@ -99,11 +101,11 @@ goes_on_zero t f since at = by (fade_next f since at)
 fade_answered_zero : (s : LevelControlState) (f : Fade) (since at : Micros) (on : Bool) (a : DeviceAnswer) → Zero (fade_answered s f since at on a)
 unfolding fade_answered move_to_level_transition fade_missing device_failed
 fade_answered_zero s f since at on (device.Level level) =
-    cond_zero (fade_last f) _ _ (ended_zero (fade_told s f at on level) f.after) (goes_on_zero (fade_told s f at on level) f since at)
+    cond_zero (fade_last f) _ _ (ended_zero (fade_told s f at on level) f.put_back) (goes_on_zero (fade_told s f at on level) f since at)
 fade_answered_zero s f since at on device.Missing = refl
 fade_answered_zero s f since at on device.Failed = refl
 
-move_zero : (t : Told) (m : MoveCourse) (at : Micros) (on : Bool) → Zero (move_goes_on t m at on)
+move_zero : (t : Told) (m : Motion) (at : Micros) (on : Bool) → Zero (move_goes_on t m at on)
 unfolding move_goes_on
 move_zero t m at on = by (next_move t.state.current_level m.mode)
   where
@@ -114,11 +116,11 @@ move_zero t m at on = by (next_move t.state.current_level m.mode)
 
 move_then_zero : (t : Told) (m : Move) (since at : Micros) (on : Bool) → Zero (move_then t m since at on)
 unfolding move_then
-move_then_zero t m since at on = by (wait_or_ask since at m.course.period)
+move_then_zero t m since at on = by (wait_or_ask since at m.motion.period)
   where
     by : (n : Option Micros) → Zero (move_next n t m at on)
     by (Some until) = refl
-    by None = move_zero t m.course at on
+    by None = move_zero t m.motion at on
 
 move_answered_zero : (s : LevelControlState) (m : Move) (since at : Micros) (on : Bool) (a : DeviceAnswer) → Zero (move_answered s m since at on a)
 unfolding move_answered move_transition move_missing device_failed
@@ -171,7 +173,7 @@ woken_zero s at on = by s.task
     by task.Rest = refl
     by task.StartUp = refl
     by (task.Fade f) = refl
-    by (task.Move m) = move_zero _ m.course at on
+    by (task.Move m) = move_zero _ m.motion at on
     by (task.OnReaction r) = refl
 
 pub run_zero : (s : LevelControlState) (k : EventKind) (at : Micros) (on : Bool) → (run s k at on).number ≡ 0
@@ -207,28 +209,28 @@ run_zero s (kind.Command command.FactoryReset) at on = refl
 
 -- The three ways of an event.
 
-abbrev pub stopped_in : LevelControlState → Event → Bool
-stopped_in s e = (command_tests_of s e.moment.on_off e.kind).stopped_by_options
+abbrev pub options_stop_in : LevelControlState → Event → Bool
+options_stop_in s e = (command_tests_of s e.moment.on_off e.kind).stopped_by_options
 
 pub event_refused : (s : LevelControlState) (e : Event) → (number_of s e ≡ 0 → ⊥) → event_of s e ≡ refused s (number_of s e)
 unfolding event_of
 event_refused s e h = simp (ne_eqb (number_of s e) 0 h)
 
-pub event_stopped : (s : LevelControlState) (e : Event) → number_of s e ≡ 0 → stopped_in s e ≡ true → event_of s e ≡ done (accept s e.moment.at) []
+pub event_options_stop : (s : LevelControlState) (e : Event) → number_of s e ≡ 0 → options_stop_in s e ≡ true → event_of s e ≡ done (accept s e.moment.at) []
 unfolding event_of
-event_stopped s e h q = simp (eq-eqb (number_of s e) 0 h, q)
+event_options_stop s e h q = simp (eq-eqb (number_of s e) 0 h, q)
 
-pub event_runs : (s : LevelControlState) (e : Event) → number_of s e ≡ 0 → stopped_in s e ≡ false
+pub event_runs : (s : LevelControlState) (e : Event) → number_of s e ≡ 0 → options_stop_in s e ≡ false
     → event_of s e ≡ run (accept s e.moment.at) e.kind e.moment.at e.moment.on_off
 unfolding event_of
 event_runs s e h q = simp (eq-eqb (number_of s e) 0 h, q)
 
 -- the number of the outcome is that of the first cause
 pub event_number : (s : LevelControlState) (e : Event) → (event_of s e).number ≡ number_of s e
-event_number s e = go (eqb (number_of s e) 0) refl (stopped_in s e) refl
+event_number s e = go (eqb (number_of s e) 0) refl (options_stop_in s e) refl
   where
-    go : (b : Bool) → eqb (number_of s e) 0 ≡ b → (c : Bool) → stopped_in s e ≡ c → (event_of s e).number ≡ number_of s e
-    go true p true q = let z = eqb-true (number_of s e) 0 p in ap (λ (o : Outcome). o.number) (event_stopped s e z q) ∙ sym z
+    go : (b : Bool) → eqb (number_of s e) 0 ≡ b → (c : Bool) → options_stop_in s e ≡ c → (event_of s e).number ≡ number_of s e
+    go true p true q = let z = eqb-true (number_of s e) 0 p in ap (λ (o : Outcome). o.number) (event_options_stop s e z q) ∙ sym z
     go true p false q =
         let z = eqb-true (number_of s e) 0 p in
         ap (λ (o : Outcome). o.number) (event_runs s e z q) ∙ run_zero (accept s e.moment.at) e.kind e.moment.at e.moment.on_off ∙ sym z

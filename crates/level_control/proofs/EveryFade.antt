@@ -27,7 +27,7 @@ use Rattle.transitions.specs.declared.tasks.Task.TheVariants as task
 use Rattle.transitions.specs.Types.{Level}
 use Rattle.level_control.specs.Answer.{Outcome}
 use Rattle.level_control.specs.Targets.{go_to}
-use Rattle.level_control.specs.Events.{number_of, event_of}
+use Rattle.level_control.specs.Handle.{number_of, event_of}
 use Rattle.level_control.specs.Path.{path}
 use Rattle.level_control.specs.Run.{all_refused, asks, opened, Run, Pending, Nothing, waits, accepted, is_onward, started, next, play, only_onward, state_after}
 use Rattle.level_control.specs.Starts.{Fades, distance, on_start_at, on_start}

@@ -14,7 +14,7 @@ use Rattle.units.specs.declared.Micros.{Micros}
 use Rattle.units.specs.declared.Tenths.{Tenths}
 use Rattle.transitions.specs.Events.{event}
 use Rattle.transitions.specs.Fade.{next_level, remaining_after}
-use Rattle.transitions.specs.Tasks.{fade_last, fade_left, fade_next, fade_asking, fade_waiting, level_to_restore, task_open, task_due, phase_open, phase_due}
+use Rattle.transitions.specs.Tasks.{fade_last, fade_left, fade_next, fade_asking, fade_waiting, level_to_put_back, task_open, task_due, phase_open, phase_due}
 use Rattle.transitions.specs.Types.{is_level}
 use Rattle.transitions.specs.declared.actions.ActionKind.TheVariants.{P}
 use Rattle.transitions.specs.declared.events.DeviceAnswer.{DeviceAnswer}
@@ -32,9 +32,9 @@ use Rattle.level_control.specs.State.{accept, with_task}
 use Rattle.transitions.specs.Actions.{reports_of}
 use Rattle.level_control.specs.Answer.{Outcome, done}
 use Rattle.level_control.specs.Reports.{write_remaining_time}
-use Rattle.level_control.specs.Fades.{fade_told, restored, fade_ended_by, fade_ended, fade_then, fade_goes_on, move_to_level_transition, fade_answered, fade_woken}
-use Rattle.level_control.specs.Causes.{turn_tests, command_tests_of}
-use Rattle.level_control.specs.Events.{fade_answered_in, answered_in, answered, woken_in, woken, run, number_of, event_of}
+use Rattle.level_control.specs.Fades.{fade_told, ended_put_back, fade_ended_by, fade_ended, fade_then, fade_goes_on, move_to_level_transition, fade_answered, fade_woken}
+use Rattle.level_control.specs.Judge.{turn_tests, command_tests_of}
+use Rattle.level_control.specs.Handle.{fade_answered_in, answered_in, answered, woken_in, woken, run, number_of, event_of}
 use Rattle.level_control.specs.Path.{path}
 use Rattle.level_control.specs.Run.{Run, Pending, Nothing, Request, Wait, asks, opened, closed_by, accepted, is_onward, next_by, next as next_run}
 use Rattle.level_control.specs.Starts.{distance}
@@ -143,9 +143,9 @@ module _ (c t T : ℕ) (pos : 1 ≤ T) where
   ends_rest : (told : Told) → Ends told (done (with_task told.state task.Rest) (reports_of told.reports))
   ends_rest told = record { rests = refl; time = refl; silent = silent_reports told.reports }
 
-  ends_restored : (told : Told) (before : ℕ) → Ends told (restored told before)
-  unfolding restored
-  ends_restored told before = record {
+  ends_put_back : (told : Told) (before : ℕ) → Ends told (ended_put_back told before)
+  unfolding ended_put_back
+  ends_put_back told before = record {
     rests = refl;
     time = refl;
     silent =
@@ -154,12 +154,12 @@ module _ (c t T : ℕ) (pos : 1 ≤ T) where
         (record { no_ask = refl; no_open = λ p. refl });
   }
 
-  ends : (told : Told) (after : Option ℕ) → Ends told (fade_ended told after)
+  ends : (told : Told) (put_back : Option ℕ) → Ends told (fade_ended told put_back)
   unfolding fade_ended
-  ends told after = by (level_to_restore after told.state.attributes.on_level)
+  ends told put_back = by (level_to_put_back put_back told.state.attributes.on_level)
     where
       by : (l : Level) → Ends told (fade_ended_by l told)
-      by (Some before) = ends_restored told before
+      by (Some before) = ends_put_back told before
       by None = ends_rest told
 
   ended_keeps : (asked : List ℕ) (k : ℕ) (told : Told) (o : Outcome) → Ends told o → told.state.remaining_time.0 ≡ 0
@@ -203,11 +203,11 @@ module _ (c t T : ℕ) (pos : 1 ≤ T) where
         told : Told
         told = fade_told s f at on v
 
-        by : (b : Bool) → fade_last f ≡ b → After asked (k + 1) (cond b (fade_ended told f.after) (fade_goes_on told f since at))
+        by : (b : Bool) → fade_last f ≡ b → After asked (k + 1) (cond b (fade_ended told f.put_back) (fade_goes_on told f since at))
         by true e =
             let last : f.counter ≡ f.target = eqb-true _ _ e in
             let zero : told.state.remaining_time.0 ≡ 0 = told_time s f at on v ∙ ap shown_of (left_last f last) in
-            ended_keeps asked (k + 1) told (fade_ended told f.after) (ends told f.after) zero (finish h last)
+            ended_keeps asked (k + 1) told (fade_ended told f.put_back) (ends told f.put_back) zero (finish h last)
         by false e =
             let far : f.counter ≡ f.target → ⊥ = eqb-false _ _ e in
             let lowered = lower small h far in

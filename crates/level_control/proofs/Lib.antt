@@ -1,5 +1,6 @@
+-- The files of lemmas, each over those before it.
 pub mod ActionLaws
-pub mod AnswerLaws
+pub mod ArrayLaws
 pub mod PathLaws
 pub mod TimeLaws
 pub mod SeenLaws

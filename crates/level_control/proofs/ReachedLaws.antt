@@ -7,7 +7,7 @@ use lib.Seq.{append_snoc}
 use Rattle.transitions.specs.declared.events.Event.{Event}
 use Rattle.transitions.specs.declared.settings.Settings.{Settings}
 use Rattle.level_control.specs.Answer.{Outcome}
-use Rattle.level_control.specs.Events.{event_of}
+use Rattle.level_control.specs.Handle.{event_of}
 use Rattle.level_control.specs.Reached.{ReachedFrom, ReachedStates}
 use Rattle.level_control.specs.Run.{accepted, state_after}
 use Rattle.level_control.specs.State.{new_state}

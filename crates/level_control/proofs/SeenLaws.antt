@@ -4,7 +4,7 @@ use Prim.Native.Nat.{ℕ}
 use mathlib.Core.Bool.{Bool, true, false}
 use mathlib.Core.Path.{◌≡◌, refl, ap, ◌∙◌}
 use mathlib.Core.List.{List, [], ◌∷◌, ◌++◌, append_assoc}
-use Rattle.transitions.specs.Events.{act, act_if, act_coupled}
+use Rattle.transitions.specs.Actions.{act, act_if, act_coupled}
 use Rattle.transitions.specs.declared.actions.Action.{Action}
 use Rattle.transitions.specs.declared.actions.ActionKind.{ActionKind}
 use Rattle.transitions.specs.declared.actions.ActionKind.TheVariants.{P, S, L, R}

@@ -14,7 +14,8 @@ use Rattle.units.specs.Units.{tenths, tenths_down, scaled_floor}
 use Rattle.units.specs.declared.Micros.{Micros}
 use Rattle.units.specs.declared.Tenths.{Tenths}
 use Rattle.transitions.specs.Commands.{target_level, step_level, step_time, is_overflow, consults_options}
-use Rattle.transitions.specs.Events.{act, event}
+use Rattle.transitions.specs.Actions.{act}
+use Rattle.transitions.specs.Events.{event}
 use Rattle.transitions.specs.Tasks.{begin_fade, fade_from}
 use Rattle.transitions.specs.Types.{level_or, time_or}
 use Rattle.transitions.specs.declared.actions.ActionKind.TheVariants.{D}
@@ -39,11 +40,12 @@ use Rattle.transitions.proofs.MatterLaws.{matter_agrees}
 use Rattle.level_control.specs.State.{accept, with_task}
 use Rattle.transitions.specs.Actions.{reports_of}
 use Rattle.level_control.specs.Answer.{Outcome, done}
-use Rattle.level_control.specs.Reports.{continues, set_level, told_level}
+use Rattle.level_control.specs.Judge.{continues}
+use Rattle.level_control.specs.Reports.{set_level, told_level}
 use Rattle.level_control.specs.Targets.{quiet, request_to, go_to_by, go_to, moved_to_level, stepped_level, stepped_time, stepped_by, stepped_from, stepped, recalled_at, recalled}
 use Rattle.level_control.specs.Reactions.{off_time, on_time, turned_on, turned_off, switched, on_to, on_goes_on, on_answered}
-use Rattle.level_control.specs.Causes.{move_to_level_tests, step_tests, overflows_from, step_overflows, scene_tests_at, scene_tests, command_tests_of}
-use Rattle.level_control.specs.Events.{answered_in, answered, run, number_of, event_of}
+use Rattle.level_control.specs.Judge.{move_to_level_tests, step_tests, overflows_from, step_overflows, scene_tests_at, scene_tests, command_tests_of}
+use Rattle.level_control.specs.Handle.{answered_in, answered, run, number_of, event_of}
 use Rattle.level_control.specs.Run.{accepted, all_refused, state_after}
 use Rattle.level_control.specs.Starts.{Start, NoFade, Fades, start_from, target, passes, when, given_or, step_to, distance, step_in, step_start, scene_start, start_of, on_start_at}
 use Rattle.level_control.specs.Reports.{Told}
@@ -104,8 +106,8 @@ continues_is s with_on_off on mask override =
     matter_agrees.options with_on_off s.settings.coupled on s.attributes.options mask override
 
 -- 255 is above 254: the options are not looked at, or let it pass
-not_stopped : (level : ℕ) (x : Bool) → (leb 255 level || x) ≡ true → (consults_options level && not x) ≡ false
-not_stopped level x e = go (leb 255 level) refl x e
+options_pass : (level : ℕ) (x : Bool) → (leb 255 level || x) ≡ true → (consults_options level && not x) ≡ false
+options_pass level x e = go (leb 255 level) refl x e
   where
     go : (b : Bool) → leb 255 level ≡ b → (x : Bool) → (leb 255 level || x) ≡ true → (consults_options level && not x) ≡ false
     go true q x e = rw (lt-leb level 254 (leb-true 255 level q)) refl
@@ -182,7 +184,7 @@ module _ (s : LevelControlState) (at : Micros) (on : Bool) (c t T : ℕ) where
         told = quiet (accept s at);
         request = request_to (accept s at) r.level (time_or r.transition_time (tenths 0)) r.options.with_on_off false false;
         on = on;
-        outcome = event_runs s (event at on (kind.Command (command.MoveToLevel r))) z (not_stopped r.level _ pass);
+        outcome = event_runs s (event at on (kind.Command (command.MoveToLevel r))) z (options_pass r.level _ pass);
         level = from.level;
         target = target_is s r.level ∙ from.target;
         time = given_is r.transition_time (tenths 0) ∙ from.time;
@@ -222,7 +224,7 @@ module _ (s : LevelControlState) (at : Micros) (on : Bool) (c t T : ℕ) where
           (start_from s.current_level (target s level) (tenths_down r.transition_time).0) c t T named in
           let from = from_fades _ _ _ c t T lets.1 in
           let pass = rw (← continues_is s false on none none) at lets.0 in
-          let free : (scene_tests_at r.level s on).stopped_by_options ≡ false = rw q (not_stopped level _ pass) in
+          let free : (scene_tests_at r.level s on).stopped_by_options ≡ false = rw q (options_pass level _ pass) in
           record {
             told = quiet (accept s at);
             request = request_to (accept s at) level (tenths_down r.transition_time) false true false;

@@ -1,7 +1,7 @@
 -- Events and answers: what an event gives, and how the code's array holds it.
 use Rattle.std.specs.Prelude.{ℕ, min, Option, Some, None, Result, Ok, Err, List, [], ◌∷◌, ◌++◌, eqb, length, take, replicate, find}
 use Rattle.transitions.specs.Causes.{refusal_number}
-use Rattle.transitions.specs.Events.{action}
+use Rattle.transitions.specs.Actions.{action}
 use Rattle.transitions.specs.declared.actions.Action.{Action}
 use Rattle.transitions.specs.declared.actions.ActionKind.TheVariants.{X}
 use Rattle.transitions.specs.declared.causes.Refusal.{Refusal}

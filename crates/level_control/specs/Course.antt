@@ -2,7 +2,7 @@
 use Rattle.std.specs.Prelude.{Bool, cond, []}
 use Rattle.units.specs.declared.Micros.{Micros}
 use Rattle.transitions.specs.Causes.{CommandTests}
-use Rattle.transitions.specs.Events.{act}
+use Rattle.transitions.specs.Actions.{act}
 use Rattle.transitions.specs.declared.actions.ActionKind.TheVariants.{K}
 use Rattle.transitions.specs.declared.tasks.Wait.TheVariants as wait
 use Rattle.level_control.specs.Answer.{Outcome, done}
@@ -11,10 +11,12 @@ use Rattle.level_control.specs.Targets.{quiet, go_to, stopped}
 use Rattle.level_control.specs.Fades.{fade_woken}
 use Rattle.level_control.specs.Moves.{move_goes_on}
 use Rattle.level_control.specs.Reactions.{turned_on}
-use Rattle.level_control.specs.Rest.{started_up, updated, reset_all}
-use Rattle.level_control.specs.Events.{answered_to}
-use Rattle.level_control.specs.declared.causes.Course.{Course}
-use Rattle.level_control.specs.declared.causes.Course.TheVariants as course
+use Rattle.level_control.specs.StartUp.{started_up}
+use Rattle.level_control.specs.Updates.{updated}
+use Rattle.level_control.specs.Setters.{reset_all}
+use Rattle.level_control.specs.Handle.{answered_to}
+use Rattle.level_control.specs.declared.judge.Course.{Course}
+use Rattle.level_control.specs.declared.judge.Course.TheVariants as course
 use Rattle.level_control.specs.declared.state.LevelControlState.{LevelControlState}
 
 abbrev pub follow : LevelControlState → Course → Micros → Bool → Outcome
@@ -32,5 +34,5 @@ follow s (course.Set attributes) at on = done (with_attributes s attributes) (ac
 follow s course.Reset at on = reset_all s
 
 -- an accepted command that the options stop does nothing
-abbrev pub unless_stopped : CommandTests → LevelControlState → Outcome → Outcome
-unless_stopped tests s o = cond tests.stopped_by_options (done s []) o
+abbrev pub unless_options_stop : CommandTests → LevelControlState → Outcome → Outcome
+unless_options_stop tests s o = cond tests.stopped_by_options (done s []) o

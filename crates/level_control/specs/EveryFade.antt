@@ -4,7 +4,7 @@ use Rattle.transitions.specs.declared.events.DeviceAnswer.TheVariants as device
 use Rattle.transitions.specs.declared.events.Event.{Event}
 use Rattle.transitions.specs.declared.events.EventKind.TheVariants as kind
 use Rattle.level_control.specs.Answer.{Outcome}
-use Rattle.level_control.specs.Events.{event_of}
+use Rattle.level_control.specs.Handle.{event_of}
 use Rattle.level_control.specs.Path.{path}
 use Rattle.level_control.specs.Run.{Run, Nothing, accepted, waits, started, play, only_onward, all_refused, state_after}
 use Rattle.level_control.specs.Starts.{Fades, start_of, on_start, distance}

@@ -2,8 +2,8 @@
 use Rattle.std.specs.Prelude.{ℕ, Bool, cond, not, ◌||◌, ◌++◌, Option, Some, None}
 use Rattle.units.specs.declared.Micros.{Micros}
 use Rattle.transitions.specs.Types.{is_missing, is_level}
-use Rattle.transitions.specs.Events.{act, act_if}
-use Rattle.transitions.specs.Tasks.{fade_last, fade_start, fade_left, fade_next, fade_asking, fade_waiting, level_to_restore}
+use Rattle.transitions.specs.Actions.{act, act_if}
+use Rattle.transitions.specs.Tasks.{fade_last, fade_start, fade_left, fade_next, fade_asking, fade_waiting, level_to_put_back}
 use Rattle.transitions.specs.declared.actions.ActionKind.TheVariants.{D, P, S, L, W, E}
 use Rattle.transitions.specs.declared.events.DeviceAnswer.{DeviceAnswer}
 use Rattle.transitions.specs.declared.events.DeviceAnswer.TheVariants as device
@@ -13,7 +13,8 @@ use Rattle.transitions.specs.Types.{Level}
 use Rattle.level_control.specs.State.{with_task, with_level, with_previous_level}
 use Rattle.transitions.specs.Actions.{reports_of}
 use Rattle.level_control.specs.Answer.{Outcome, done}
-use Rattle.level_control.specs.Reports.{write_remaining_time, set_level, coupled_by}
+use Rattle.level_control.specs.Reports.{write_remaining_time, set_level}
+use Rattle.level_control.specs.Coupling.{coupled_by}
 use Rattle.level_control.specs.Reports.{Told}
 use Rattle.level_control.specs.declared.state.LevelControlState.{LevelControlState}
 
@@ -39,18 +40,18 @@ fade_told s f at on level = record {
 }
 
 -- Reactions: the level at the off event is put back without the device: P if it changes, L always
-unfoldable pub restored : Told → ℕ → Outcome
-restored t before =
+unfoldable pub ended_put_back : Told → ℕ → Outcome
+ended_put_back t before =
     done (with_level (with_task t.state task.Rest) (Some before))
     (reports_of t.reports ++ act_if (not (is_level t.state.current_level before)) P ++ act L 0)
 
 -- at the end
 abbrev pub fade_ended_by : Level → Told → Outcome
-fade_ended_by (Some before) t = restored t before
+fade_ended_by (Some before) t = ended_put_back t before
 fade_ended_by None t = done (with_task t.state task.Rest) (reports_of t.reports)
 
 unfoldable pub fade_ended : Told → Option ℕ → Outcome
-fade_ended t after = fade_ended_by (level_to_restore after t.state.attributes.on_level) t
+fade_ended t put_back = fade_ended_by (level_to_put_back put_back t.state.attributes.on_level) t
 
 -- a fade whose request is made: D
 abbrev pub asked : LevelControlState → Fade → Outcome
@@ -70,7 +71,7 @@ fade_goes_on t f since at = fade_then (fade_next f since at) t f at
 -- an answer with a level
 unfoldable pub move_to_level_transition : LevelControlState → Fade → Micros → Micros → Bool → ℕ → Outcome
 move_to_level_transition s f since at on level =
-    cond (fade_last f) (fade_ended (fade_told s f at on level) f.after) (fade_goes_on (fade_told s f at on level) f since at)
+    cond (fade_last f) (fade_ended (fade_told s f at on level) f.put_back) (fade_goes_on (fade_told s f at on level) f since at)
 
 -- a missing answer: P if the level changed, S, E15
 unfoldable pub fade_missing : LevelControlState → Fade → Micros → Outcome

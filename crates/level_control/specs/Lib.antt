@@ -1,14 +1,18 @@
+-- The pages of definitions, each over those before it.
 pub mod State
 pub mod Answer
 pub mod Errors
 pub mod Reports
+pub mod Coupling
 pub mod Targets
 pub mod Fades
 pub mod Moves
 pub mod Reactions
-pub mod Rest
-pub mod Causes
-pub mod Events
+pub mod StartUp
+pub mod Updates
+pub mod Setters
+pub mod Judge
+pub mod Handle
 pub mod Course
 pub mod Path
 pub mod Starts

@@ -2,7 +2,7 @@
 use Rattle.std.specs.Prelude.{Bool, true, ◌≡◌, List}
 use Rattle.transitions.specs.declared.events.Event.{Event}
 use Rattle.transitions.specs.declared.settings.Settings.{Settings}
-use Rattle.level_control.specs.Events.{event_of}
+use Rattle.level_control.specs.Handle.{event_of}
 use Rattle.level_control.specs.Run.{state_after}
 use Rattle.level_control.specs.State.{new_state}
 use Rattle.level_control.specs.declared.state.LevelControlState.{LevelControlState}

@@ -3,7 +3,7 @@ use Rattle.std.specs.Prelude.{Bool, true, false, cond, ◌++◌, Some, None}
 use Rattle.units.specs.declared.Micros.{Micros}
 use Rattle.units.specs.declared.Tenths.{Tenths}
 use Rattle.transitions.specs.Types.{level_or, time_or}
-use Rattle.transitions.specs.Events.{act}
+use Rattle.transitions.specs.Actions.{act}
 use Rattle.transitions.specs.declared.actions.ActionKind.TheVariants.{D, E}
 use Rattle.transitions.specs.declared.events.DeviceAnswer.{DeviceAnswer}
 use Rattle.transitions.specs.declared.events.DeviceAnswer.TheVariants as device

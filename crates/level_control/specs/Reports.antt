@@ -1,15 +1,12 @@
--- Remaining time, Options, Level reports and Coupling, on the state.
-use Rattle.std.specs.Prelude.{ℕ, Bool, true, false, cond, not, Option, None}
+-- Remaining time and Level reports, on the state: what is written and stored, and whether it is reported.
+use Rattle.std.specs.Prelude.{Bool, true, false, cond, not, None}
 use Rattle.units.specs.Units.{tenths_up}
 use Rattle.units.specs.declared.Millis.{Millis}
 use Rattle.units.specs.declared.Micros.{Micros}
 use Rattle.transitions.specs.Types.{same_level}
 use Rattle.transitions.specs.RemainingTime.{remaining_time_due}
-use Rattle.transitions.specs.Options.{should_continue}
 use Rattle.transitions.specs.CurrentLevel.{second, current_level_due}
-use Rattle.transitions.specs.Coupling.{coupled_on_off}
 use Rattle.transitions.specs.Types.{Level}
-use Rattle.transitions.specs.declared.types.OptionsBitmap.{OptionsBitmap}
 use Rattle.transitions.specs.Actions.{Reports, reports_of}
 use Rattle.level_control.specs.Answer.{Outcome, done}
 use Rattle.level_control.specs.State.{with_remaining_time, with_answered}
@@ -65,11 +62,3 @@ told_level s level now end = record {
     time = false;
   };
 }
-
--- coupling, with the settings of the state
-unfoldable pub coupled_by : LevelControlState → ℕ → Bool → Bool → Option Bool
-coupled_by s level with_on_off on = coupled_on_off with_on_off s.settings.coupled on s.settings.range.min level
-
--- options, with the settings and the options of the state
-unfoldable pub continues : LevelControlState → Bool → Bool → OptionsBitmap → OptionsBitmap → Bool
-continues s with_on_off on mask override = should_continue with_on_off s.settings.coupled on s.attributes.options mask override

@@ -9,7 +9,7 @@ use Rattle.transitions.specs.declared.events.Event.{Event}
 use Rattle.transitions.specs.declared.events.EventKind.{EventKind}
 use Rattle.transitions.specs.declared.events.EventKind.TheVariants as kind
 use Rattle.level_control.specs.Answer.{Outcome}
-use Rattle.level_control.specs.Events.{event_of}
+use Rattle.level_control.specs.Handle.{event_of}
 use Rattle.level_control.specs.declared.state.LevelControlState.{LevelControlState}
 
 -- the levels that a list of actions asks for

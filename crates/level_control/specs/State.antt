@@ -25,8 +25,8 @@ new_state settings = record {
 }
 
 -- a reset ends the task and puts the attributes back to the configured; remaining and last-report time become 0, the previous level missing. The level stays
-unfoldable pub put_back : LevelControlState → LevelControlState
-put_back s = record s {
+unfoldable pub reset_state : LevelControlState → LevelControlState
+reset_state s = record s {
   attributes = s.settings.attributes;
   remaining_time = tenths 0;
   previous_current_level = None;

@@ -6,7 +6,7 @@ use Rattle.units.specs.declared.Micros.{Micros}
 use Rattle.units.specs.declared.Tenths.{Tenths}
 use Rattle.transitions.specs.Types.{is_missing, time_or}
 use Rattle.transitions.specs.Commands.{target_level, step_level, step_time}
-use Rattle.transitions.specs.Events.{act, act_if, act_coupled}
+use Rattle.transitions.specs.Actions.{act, act_if, act_coupled}
 use Rattle.transitions.specs.Tasks.{begin_fade}
 use Rattle.transitions.specs.declared.actions.ActionKind.TheVariants.{D, E, L, R}
 use Rattle.transitions.specs.declared.events.MoveToLevelRequest.{MoveToLevelRequest}
@@ -20,7 +20,8 @@ use Rattle.transitions.specs.Types.{Level}
 use Rattle.level_control.specs.State.{with_task}
 use Rattle.transitions.specs.Actions.{reports_of, no_reports}
 use Rattle.level_control.specs.Answer.{Outcome, done}
-use Rattle.level_control.specs.Reports.{write_remaining_time, coupled_by}
+use Rattle.level_control.specs.Reports.{write_remaining_time}
+use Rattle.level_control.specs.Coupling.{coupled_by}
 use Rattle.level_control.specs.Reports.{Told}
 use Rattle.level_control.specs.declared.state.LevelControlState.{LevelControlState}
 use Rattle.transitions.specs.declared.causes.Refusal.{Refusal}
@@ -31,10 +32,10 @@ quiet s = record { state = s; reports = no_reports }
 
 -- a fade to a level under the rules for targets
 abbrev pub request_to : LevelControlState → ℕ → Tenths → Bool → Bool → Bool → FadeRequest
-request_to s level time with_on_off scene restores = record {
+request_to s level time with_on_off scene puts_back = record {
   with_on_off = with_on_off;
   scene_apply = scene;
-  restores = restores;
+  puts_back = puts_back;
   target = target_level level s.settings.range.min s.settings.range.max;
   transition_time = time;
 }
@@ -46,7 +47,7 @@ go_to_by begin.Reached t r on =
     done (with_task t.state task.Rest)
     (reports_of t.reports
     ++ act_coupled (coupled_by t.state r.target r.with_on_off on)
-    ++ act_if (r.restores && is_missing t.state.attributes.on_level) L)
+    ++ act_if (r.puts_back && is_missing t.state.attributes.on_level) L)
 go_to_by begin.Lost t r on = done (with_task t.state task.Rest) (reports_of t.reports ++ act E 11)
 go_to_by (begin.Starts f) t r on = done (with_task t.state (task.Fade f)) (reports_of t.reports ++ act D f.counter)
 

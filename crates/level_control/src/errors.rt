@@ -2,7 +2,7 @@
 //! Derived from level_control.rs of project-chip/rs-matter 43f61585a4 (see NOTICE), and changed.
 ghost use Rattle.std.specs.Prelude.{◌≡◌, ◌++◌};
 ghost use Rattle.transitions.specs.Actions.{held};
-ghost use Rattle.transitions.specs.Events.{act};
+ghost use Rattle.transitions.specs.Actions.{act};
 ghost use Rattle.transitions.specs.declared.actions.ActionKind.TheVariants.{E};
 ghost use Rattle.transitions.specs.declared.tasks.Task.TheVariants.{Rest};
 ghost use Rattle.level_control.specs.Errors.{error_number};

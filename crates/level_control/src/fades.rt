@@ -10,7 +10,7 @@ use crate::errors::ErrorCode;
 use crate::state::LevelControlState;
 use transitions::actions::{ActionKind, Actions};
 use transitions::events::DeviceAnswer;
-use transitions::tasks::{Fade, Task, level_to_restore};
+use transitions::tasks::{Fade, Task, level_to_put_back};
 use transitions::types::Moment;
 use units::Micros;
 
@@ -59,13 +59,13 @@ impl LevelControlState {
     {
         self.fade_told(fade, moment, level, actions);
         if fade.is_last() {
-            self.fade_ended(fade.after, actions)
+            self.fade_ended(fade.put_back, actions)
         } else {
             self.fade_goes_on(fade, since, moment.at, actions)
         }
     }
 
-    /// The device answered that it has no level: the fade fails, and what was to be restored is not.
+    /// The device answered that it has no level: the fade fails, and nothing is put back.
     #[tactic(auto, using(crate::proofs::ActionLaws::missing_told), unfolding(crate::specs::Fades::fade_missing, transitions::specs::Types::same_level))]
     fn fade_missing(&mut self, fade: Fade, now: Micros, actions: &mut Actions)
         requires { actions.old ≡ [] }
@@ -127,17 +127,17 @@ impl LevelControlState {
     }
 
     /// The end of a fade. The off reaction's puts the level before back, without the device: P if it changes, and L.
-    #[tactic(auto, using(crate::proofs::ActionLaws::if_then), unfolding(crate::specs::Fades::fade_ended, crate::specs::Fades::restored, transitions::specs::Actions::reports_of))]
-    fn fade_ended(&mut self, restores: Option<u8>, actions: &mut Actions)
+    #[tactic(auto, using(crate::proofs::ActionLaws::if_then), unfolding(crate::specs::Fades::fade_ended, crate::specs::Fades::ended_put_back, transitions::specs::Actions::reports_of))]
+    fn fade_ended(&mut self, put_back: Option<u8>, actions: &mut Actions)
         requires { length actions.old ≤ 5 }
-        ensures { done self.new actions.new ≡ after actions.old (fade_ended (quiet self.old) restores) }
+        ensures { done self.new actions.new ≡ after actions.old (fade_ended (quiet self.old) put_back) }
     {
         self.task = Task::Rest;
-        let back = level_to_restore(restores, self.attributes.on_level);
-        if back.is_some() {
-            actions.push_if(self.current_level != back, ActionKind::P);
+        let level = level_to_put_back(put_back, self.attributes.on_level);
+        if level.is_some() {
+            actions.push_if(self.current_level != level, ActionKind::P);
             actions.push(ActionKind::L, 0);
-            self.current_level = back;
+            self.current_level = level;
         }
     }
 

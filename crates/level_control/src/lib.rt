@@ -4,15 +4,17 @@
 #![tactic(auto)]
 
 pub mod answer;
-mod causes;
+mod asking;
+mod coupling;
 mod errors;
-pub mod events;
 mod fades;
+pub mod handle;
+mod judge;
 mod moves;
 mod reactions;
 mod reports;
-mod rest;
+mod start_up;
 pub mod state;
 mod targets;
-mod tasks;
 pub mod theorems;
+mod updates;

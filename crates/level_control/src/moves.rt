@@ -10,7 +10,7 @@ use crate::state::LevelControlState;
 use transitions::actions::Actions;
 use transitions::events::DeviceAnswer;
 use transitions::fade::wait_or_ask;
-use transitions::tasks::{Move, MoveCourse, MoveStep, Task, is_move_end, next_move};
+use transitions::tasks::{Motion, Move, MoveStep, Task, is_move_end, next_move};
 use transitions::types::Moment;
 use units::Micros;
 
@@ -49,7 +49,7 @@ impl LevelControlState {
         ensures { done self.new actions.new ≡ move_transition self.old moving since moment.at moment.on_off level }
     {
         let is_end = self.move_ends(moving.asked);
-        let with_on_off = moving.course.with_on_off;
+        let with_on_off = moving.motion.with_on_off;
         let coupling = self.update_coupled_on_off(level, with_on_off, moment.on_off);
         self.told_level(Some(level), moment.at, is_end, actions);
         if is_end {
@@ -96,18 +96,20 @@ impl LevelControlState {
     }
 
     /// The next request of a move, from the stored level.
+    // Inline, as go_to is.
+    #[inline(always)]
     #[tactic(auto, using(crate::proofs::ActionLaws::pushed, crate::proofs::ActionLaws::coupled_then), unfolding(crate::specs::Moves::move_goes_on, transitions::specs::Actions::reports_of))]
-    pub(crate) fn move_goes_on(&mut self, course: MoveCourse, moment: Moment, actions: &mut Actions)
+    pub(crate) fn move_goes_on(&mut self, motion: Motion, moment: Moment, actions: &mut Actions)
         requires { length actions.old ≤ 5 }
-        ensures { done self.new actions.new ≡ after actions.old (move_goes_on (quiet self.old) course moment.at moment.on_off) }
+        ensures { done self.new actions.new ≡ after actions.old (move_goes_on (quiet self.old) motion moment.at moment.on_off) }
     {
-        match next_move(self.current_level, course.mode) {
+        match next_move(self.current_level, motion.mode) {
             MoveStep::Lost => self.fails(ErrorCode::InvalidInState, actions),
             MoveStep::Ends => self.task = Task::Rest,
             MoveStep::Asks(asked) => {
-                let coupling = self.leaves_min(asked, course.with_on_off, moment.on_off);
+                let coupling = self.leaves_min(asked, motion.with_on_off, moment.on_off);
                 actions.push_coupling(coupling);
-                self.asks(Task::Move(course.asking(asked, moment.at)), asked, actions);
+                self.asks(Task::Move(motion.asking(asked, moment.at)), asked, actions);
             }
         }
     }
@@ -118,9 +120,9 @@ impl LevelControlState {
         requires { length actions.old ≤ 5 }
         ensures { done self.new actions.new ≡ after actions.old (move_then (quiet self.old) moving since moment.at moment.on_off) }
     {
-        match wait_or_ask(since, moment.at, moving.course.period) {
+        match wait_or_ask(since, moment.at, moving.motion.period) {
             Some(until) => self.waits(Task::Move(moving.waiting(until)), until, actions),
-            None => self.move_goes_on(moving.course, moment, actions),
+            None => self.move_goes_on(moving.motion, moment, actions),
         }
     }
 }

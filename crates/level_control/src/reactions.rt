@@ -34,14 +34,14 @@ impl LevelControlState {
         time.unwrap_or(self.attributes.on_off_transition_time)
     }
 
-    /// Off: a fade to MIN that restores.
+    /// Off: a fade to MIN that puts the level before back.
     #[tactic(auto, unfolding(crate::specs::Reactions::off_time))]
     pub(crate) fn off_request(&self) -> FadeRequest
         ensures { result ≡ request_to self.now self.now.settings.range.min (off_time self.now) true false true }
     {
         let time = self.reaction_time(self.attributes.off_transition_time);
         FadeRequest {
-            restores: true,
+            puts_back: true,
             ..self.request_to(self.settings.range.min, time, true)
         }
     }

@@ -1,15 +1,13 @@
-//! The remaining time, the options, the answered level and the coupling, on the state.
+//! The remaining time written and the answered level stored in the state, and whether each is reported.
 //! Derived from level_control.rs of project-chip/rs-matter 43f61585a4 (see NOTICE), and changed.
 ghost use Rattle.std.specs.Prelude.{◌≡◌, [], ◌≤◌, not, length};
 ghost use Rattle.transitions.specs.Types.{same_level};
-ghost use Rattle.level_control.specs.Reports.{continues, coupled_by, outcome_told, reported, set_level, told_level, write_remaining_time};
+ghost use Rattle.level_control.specs.Reports.{outcome_told, reported, set_level, told_level, write_remaining_time};
 ghost use Rattle.level_control.specs.Answer.{done};
 
 use crate::state::LevelControlState;
 use transitions::actions::{ActionKind, Actions};
-use transitions::coupling::coupled_on_off;
 use transitions::current_level::current_level_due;
-use transitions::options::CommandOptions;
 use transitions::remaining_time::remaining_time_due;
 use transitions::types::Level;
 use units::{Micros, Millis};
@@ -87,31 +85,5 @@ impl LevelControlState {
         actions.push_if(stored.changed, ActionKind::P);
         actions.push(ActionKind::S, 0);
         actions.push_if(stored.due, ActionKind::L);
-    }
-
-    #[tactic(auto, unfolding(crate::specs::Reports::coupled_by))]
-    pub(crate) fn update_coupled_on_off(
-        &self,
-        level: u8,
-        with_on_off: bool,
-        on_off: bool,
-    ) -> Option<bool>
-        ensures { result ≡ coupled_by self.now level with_on_off on_off }
-    {
-        let settings = &self.settings;
-        coupled_on_off(
-            with_on_off,
-            settings.coupled,
-            on_off,
-            settings.range.min,
-            level,
-        )
-    }
-
-    #[tactic(auto, unfolding(crate::specs::Reports::continues))]
-    pub(crate) fn should_continue(&self, options: CommandOptions, on_off: bool) -> bool
-        ensures { result ≡ continues self.now options.with_on_off on_off options.options_mask options.options_override }
-    {
-        options.should_continue(self.settings.coupled, on_off, self.attributes.options)
     }
 }

@@ -1,7 +1,7 @@
 //! The state: the source's LevelControlState with CurrentLevel, the running task and the clock's last accepted reading.
 //! Derived from level_control.rs of project-chip/rs-matter 43f61585a4 (see NOTICE), and changed.
 ghost use Rattle.std.specs.Prelude.{◌≡◌};
-ghost use Rattle.level_control.specs.State.{accept, new_state, put_back};
+ghost use Rattle.level_control.specs.State.{accept, new_state, reset_state};
 
 use transitions::settings::{Attributes, Settings};
 use transitions::tasks::Task;
@@ -24,7 +24,7 @@ pub struct LevelControlState {
 }
 
 impl LevelControlState {
-    /// At rest, with nothing accepted.
+    /// At rest, with nothing accepted, whatever the settings are.
     #[tactic(auto, unfolding(crate::specs::State::new_state))]
     pub fn new(settings: Settings) -> LevelControlState
         ensures { result ≡ new_state settings }
@@ -43,9 +43,9 @@ impl LevelControlState {
     }
 
     /// As the settings make it, but for the level and what was accepted.
-    #[tactic(auto, unfolding(crate::specs::State::put_back, crate::specs::State::new_state))]
-    pub(crate) fn put_back(&mut self)
-        ensures { self.new ≡ put_back self.old }
+    #[tactic(auto, unfolding(crate::specs::State::reset_state, crate::specs::State::new_state))]
+    pub(crate) fn reset(&mut self)
+        ensures { self.new ≡ reset_state self.old }
     {
         *self = LevelControlState {
             current_level: self.current_level,
@@ -55,6 +55,7 @@ impl LevelControlState {
         };
     }
 
+    /// An event at a time is accepted.
     #[tactic(auto)]
     pub(crate) fn accept(&mut self, at: Micros)
         ensures { self.new ≡ accept self.old at }

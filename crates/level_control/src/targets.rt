@@ -1,4 +1,4 @@
-//! A move to a target, by a command, a step, a scene or a reaction; and stop.
+//! A fade to a target, by a command, a step, a scene or a reaction; and stop.
 //! Derived from level_control.rs of project-chip/rs-matter 43f61585a4 (see NOTICE), and changed.
 ghost use Rattle.std.specs.Prelude.{◌≡◌, ◌≤◌, false, length};
 ghost use Rattle.level_control.specs.Answer.{after, done};
@@ -27,11 +27,13 @@ impl LevelControlState {
             transition_time,
             with_on_off,
             scene_apply: false,
-            restores: false,
+            puts_back: false,
         }
     }
 
     /// Ends the running task; then the target is reached, or there is no level to fade from, or a fade starts.
+    // Inline: lent to a call, the whole state stays in memory, and an event takes a sixth longer.
+    #[inline(always)]
     #[tactic(auto, using(crate::proofs::ActionLaws::pushed), unfolding(crate::specs::Targets::go_to, transitions::specs::Actions::reports_of))]
     pub(crate) fn go_to(&mut self, request: FadeRequest, moment: Moment, actions: &mut Actions)
         requires { length actions.old ≤ 5 }
@@ -46,8 +48,8 @@ impl LevelControlState {
                     moment.on_off,
                 );
                 actions.push_coupling(coupling);
-                let restored = request.restores & self.attributes.on_level.is_none();
-                actions.push_if(restored, ActionKind::L);
+                let reported = request.puts_back & self.attributes.on_level.is_none();
+                actions.push_if(reported, ActionKind::L);
             }
             Begin::Lost => self.fails(ErrorCode::InvalidInState, actions),
             Begin::Starts(fade) => self.fade_asks(fade, actions),

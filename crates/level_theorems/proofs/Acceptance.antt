@@ -15,8 +15,8 @@ use Rattle.transitions.specs.declared.tasks.Phase.{Phase}
 use Rattle.transitions.specs.declared.tasks.Phase.TheVariants.{Waiting}
 use Rattle.transitions.specs.declared.tasks.Task.{Task}
 use Rattle.transitions.specs.declared.tasks.Task.TheVariants as task
-use Rattle.level_control.specs.Causes.{latest, time_refused, turn_tests, command_tests_of}
-use Rattle.level_control.specs.Events.{number_of, event_of}
+use Rattle.level_control.specs.Judge.{latest, time_refused, turn_tests, command_tests_of}
+use Rattle.level_control.specs.Handle.{number_of, event_of}
 use Rattle.level_control.specs.Run.{accepted}
 use Rattle.level_theorems.specs.EveryEvent.{InPhase}
 use Rattle.level_theorems.specs.FadeTheorems.{AnswersAccepted, WakesAccepted}

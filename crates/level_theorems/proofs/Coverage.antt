@@ -24,22 +24,24 @@ use Rattle.transitions.specs.declared.tasks.Task.{Task}
 use Rattle.transitions.specs.declared.tasks.Task.TheVariants as task
 use Rattle.transitions.specs.Types.{Level}
 use Rattle.transitions.specs.declared.types.OptionsBitmap.{OptionsBitmap}
-use Rattle.level_control.specs.State.{accept, put_back}
-use Rattle.level_control.specs.Reports.{continues}
+use Rattle.level_control.specs.State.{accept, reset_state}
+use Rattle.level_control.specs.Judge.{continues}
 use Rattle.level_control.specs.Targets.{quiet, moved_to_level, stepped_level, stepped_time, stepped_by, stepped_from, stepped, recalled_at, recalled, stopped}
 use Rattle.level_control.specs.Moves.{move_missing}
 use Rattle.level_control.specs.Fades.{device_failed}
 use Rattle.level_control.specs.Reactions.{on_answered, turned_on, turned_off, switched}
-use Rattle.level_control.specs.Rest.{start_up_level, start_up_at, started_up, updated, on_level_set, default_move_rate_set, start_up_current_level_set, reset_all}
-use Rattle.level_control.specs.Causes.{move_to_level_tests, step_tests, scene_tests_at, scene_tests, command_tests_of}
-use Rattle.level_control.specs.Events.{fade_answered_in, move_answered_in, answered_in, answered, woken_in, woken, run}
+use Rattle.level_control.specs.StartUp.{start_up_level, start_up_at, started_up}
+use Rattle.level_control.specs.Updates.{updated}
+use Rattle.level_control.specs.Setters.{on_level_set, default_move_rate_set, start_up_current_level_set, reset_all}
+use Rattle.level_control.specs.Judge.{move_to_level_tests, step_tests, scene_tests_at, scene_tests, command_tests_of}
+use Rattle.level_control.specs.Handle.{fade_answered_in, move_answered_in, answered_in, answered, woken_in, woken, run}
 use Rattle.level_control.specs.Run.{is_onward, with_level}
 use Rattle.level_control.specs.Starts.{Start, NoFade, start_from, target, passes, when, given_or, step_to, distance, step_in, step_start, scene_start, start_of, on_start_at}
 use Rattle.level_theorems.specs.Covered.{NoneNamed}
 use Rattle.level_control.specs.declared.state.LevelControlState.{LevelControlState}
-use Rattle.level_control.proofs.EventLaws.{stopped_in}
+use Rattle.level_control.proofs.EventLaws.{options_stop_in}
 use Rattle.level_control.proofs.StartLaws.{go_to_rests, target_is, step_is, continues_is, on_rests}
-use Rattle.level_theorems.proofs.TaskLaws.{Becomes, reacts, stays, plain, rests, move_goes, move_answered_goes, start_up_answered_goes, begin_move_goes, fade_answered_goes, fade_woken_goes}
+use Rattle.level_theorems.proofs.TaskSteps.{Becomes, reacts, stays, plain, rests, move_goes, move_answered_goes, start_up_answered_goes, begin_move_goes, fade_answered_goes, fade_woken_goes}
 use Rattle.units.specs.declared.Tenths.{Tenths}
 use Rattle.transitions.specs.declared.causes.Refusal.{Refusal}
 use Rattle.transitions.specs.declared.events.Command.TheVariants as command
@@ -68,7 +70,7 @@ module _ (s : LevelControlState) (at : Micros) (on : Bool) where
   abbrev pub Runs : EventKind → Type 0
   Runs k = Becomes (Reacts k) s.task (is_onward k) (run (accept s at) k at on).state.task
 
-  move_to_level_none : (r : MoveToLevelRequest) → stopped_in s (event at on (kind.Command (command.MoveToLevel r))) ≡ false → start_of s on (kind.Command (command.MoveToLevel r)) ≡ NoFade
+  move_to_level_none : (r : MoveToLevelRequest) → options_stop_in s (event at on (kind.Command (command.MoveToLevel r))) ≡ false → start_of s on (kind.Command (command.MoveToLevel r)) ≡ NoFade
       → Runs (kind.Command (command.MoveToLevel r))
   unfolding start_of run moved_to_level command_tests_of move_to_level_tests
   move_to_level_none r free e =
@@ -87,7 +89,7 @@ module _ (s : LevelControlState) (at : Micros) (on : Bool) where
       rests (Reacts (kind.Command (command.OnOffChanged false))) s.task false _
       (go_to_rests _ _ at on time (ap (λ (x : ℕ). start_from s.current_level x time) (target_is s s.settings.range.min) ∙ e))
 
-  scene_none : (r : SceneRequest) → stopped_in s (event at on (kind.Command (command.Scene r))) ≡ false → start_of s on (kind.Command (command.Scene r)) ≡ NoFade → Runs (kind.Command (command.Scene r))
+  scene_none : (r : SceneRequest) → options_stop_in s (event at on (kind.Command (command.Scene r))) ≡ false → start_of s on (kind.Command (command.Scene r)) ≡ NoFade → Runs (kind.Command (command.Scene r))
   unfolding start_of run recalled command_tests_of scene_tests
   scene_none r free e = by r.level free e
     where
@@ -106,7 +108,7 @@ module _ (s : LevelControlState) (at : Micros) (on : Bool) where
           rests (Reacts (kind.Command (command.Scene r))) s.task false _ (go_to_rests _ _ at on time (ap (λ (x : ℕ). start_from s.current_level x time) (target_is s level) ∙ none))
       by None free e = stays refl
 
-  step_none : (r : StepRequest) → stopped_in s (event at on (kind.Command (command.Step r))) ≡ false → start_of s on (kind.Command (command.Step r)) ≡ NoFade → Runs (kind.Command (command.Step r))
+  step_none : (r : StepRequest) → options_stop_in s (event at on (kind.Command (command.Step r))) ≡ false → start_of s on (kind.Command (command.Step r)) ≡ NoFade → Runs (kind.Command (command.Step r))
   unfolding start_of run stepped command_tests_of step_tests stepped_level
   step_none r free e = by s.current_level refl none
     where
@@ -159,11 +161,11 @@ module _ (s : LevelControlState) (at : Micros) (on : Bool) where
   wake_none task.Rest q = stays q
   wake_none task.StartUp q = stays q
   wake_none (task.Fade f) q = fade_woken_goes (Reacts kind.Wake) (accept s at) f at
-  wake_none (task.Move m) q = move_goes (Reacts kind.Wake) (task.Move m) true (quiet (accept s at)) m.course at on
+  wake_none (task.Move m) q = move_goes (Reacts kind.Wake) (task.Move m) true (quiet (accept s at)) m.motion at on
   wake_none (task.OnReaction r) q = stays q
 
-  pub runs_none : (k : EventKind) → stopped_in s (event at on k) ≡ false → NoneNamed s (event at on k) → Runs k
-  unfolding run started_up put_back stopped switched turned_on answered woken updated on_level_set default_move_rate_set start_up_current_level_set reset_all
+  pub runs_none : (k : EventKind) → options_stop_in s (event at on k) ≡ false → NoneNamed s (event at on k) → Runs k
+  unfolding run started_up reset_state stopped switched turned_on answered woken updated on_level_set default_move_rate_set start_up_current_level_set reset_all
   runs_none kind.StartUp free n = by (start_up_level (accept s at))
     where
       by : (l : Level) → Becomes (Reacts kind.StartUp) s.task false (start_up_at l (accept s at)).state.task

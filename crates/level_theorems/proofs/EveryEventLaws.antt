@@ -12,7 +12,7 @@ use lib.Dec.{eqb}
 use Rattle.units.specs.Units.{before, micros}
 use Rattle.units.specs.declared.Micros.{Micros}
 use Rattle.transitions.specs.Causes.{Row, rows, first_cause, event_tests, TurnTests, CommandTests}
-use Rattle.transitions.specs.Events.{action, act}
+use Rattle.transitions.specs.Actions.{action, act}
 use Rattle.transitions.specs.Search.{NoneOf, First}
 use Rattle.transitions.specs.declared.actions.Action.{Action}
 use Rattle.transitions.specs.declared.actions.ActionKind.TheVariants.{W, X}
@@ -24,10 +24,10 @@ use Rattle.transitions.specs.declared.events.EventKind.TheVariants as kind
 use Rattle.transitions.specs.declared.tasks.Phase.TheVariants.{Waiting}
 use Rattle.transitions.proofs.RuleLaws.{rule_laws}
 use Rattle.level_control.specs.Answer.{Outcome, done, refused, packed, answer_of, refusal_of, number_shown}
-use Rattle.level_control.specs.Causes.{time_refused, turn_tests, command_tests_of}
-use Rattle.level_control.specs.Events.{run, number_of, event_of}
-use Rattle.level_control.specs.Rest.{reset_all}
-use Rattle.level_control.specs.State.{new_state, put_back, accept}
+use Rattle.level_control.specs.Judge.{time_refused, turn_tests, command_tests_of}
+use Rattle.level_control.specs.Handle.{run, number_of, event_of}
+use Rattle.level_control.specs.Setters.{reset_all}
+use Rattle.level_control.specs.State.{new_state, reset_state, accept}
 use Rattle.level_theorems.specs.Orders.{kinds_of, OneOf, orders}
 use Rattle.level_theorems.specs.EveryEvent as claim
 use Rattle.level_theorems.specs.EveryEvent.{LevelFrom, AttributesFrom, unchanged, InPhase, WaitAfter, EveryEvent, tests_of}
@@ -36,8 +36,8 @@ use Rattle.std.proofs.lemmas.List.{length-take-le}
 use Rattle.std.proofs.lemmas.List.Elements.{All-drop, All-replicate}
 use lib.Seq.{drop-append_seam}
 use Rattle.level_control.proofs.ActionLaws.{array_filled}
-use Rattle.level_control.proofs.AnswerLaws.{unpacked}
-use Rattle.level_control.proofs.EventLaws.{stopped_in, event_refused, event_stopped, event_runs, event_number, turn_passes}
+use Rattle.level_control.proofs.ArrayLaws.{unpacked}
+use Rattle.level_control.proofs.EventLaws.{options_stop_in, event_refused, event_options_stop, event_runs, event_number, turn_passes}
 use Rattle.event_theorems.specs.Brings.{brings}
 use Rattle.event_theorems.specs.Fields.{next_state}
 use Rattle.event_theorems.proofs.RunLaws.{gives}
@@ -55,10 +55,10 @@ pub three_ways : (s : LevelControlState) (e : Event) (Q : Outcome → Type 0)
     → (number_of s e ≡ 0 → Q (done (accept s e.moment.at) []))
     → Q (gives s (brings s e.kind) e.moment.at e.moment.on_off)
     → Q (event_of s e)
-three_ways s e Q kept stopped runs = go (eqb (number_of s e) 0) refl (stopped_in s e) refl
+three_ways s e Q kept stopped runs = go (eqb (number_of s e) 0) refl (options_stop_in s e) refl
   where
-    go : (b : Bool) → eqb (number_of s e) 0 ≡ b → (c : Bool) → stopped_in s e ≡ c → Q (event_of s e)
-    go true p true q = let z = eqb-true (number_of s e) 0 p in subst Q (sym (event_stopped s e z q)) (stopped z)
+    go : (b : Bool) → eqb (number_of s e) 0 ≡ b → (c : Bool) → options_stop_in s e ≡ c → Q (event_of s e)
+    go true p true q = let z = eqb-true (number_of s e) 0 p in subst Q (sym (event_options_stop s e z q)) (stopped z)
     go true p false q = let z = eqb-true (number_of s e) 0 p in subst Q (sym (runs_by s e z q)) runs
     go false p c q = let z = eqb-false (number_of s e) 0 p in subst Q (sym (event_refused s e z)) (kept z)
 
@@ -77,7 +77,7 @@ first_cause_is_first s e n =
     let law = rule_laws.cause (tests_of s e) n in
     (λ h. law.0 (sym is ∙ h), λ h. is ∙ law.1 h)
 
-reset_is : (s : LevelControlState) (e : Event) → e.kind ≡ (kind.Command command.FactoryReset) → number_of s e ≡ 0 → event_of s e ≡ done (put_back (accept s e.moment.at)) (act X 0)
+reset_is : (s : LevelControlState) (e : Event) → e.kind ≡ (kind.Command command.FactoryReset) → number_of s e ≡ 0 → event_of s e ≡ done (reset_state (accept s e.moment.at)) (act X 0)
 unfolding command_tests_of run reset_all
 reset_is s e k z =
     event_runs s e z (ap (λ (k : EventKind). (command_tests_of s e.moment.on_off k).stopped_by_options) k)
@@ -288,7 +288,7 @@ never_6 s e a k n =
     open_no_answer s e.moment.at a (subst (λ (k : EventKind). (turn_tests s e.moment.at k).answer_open ≡ true) k ((turn_number s e).0 n))
 
 pub every_event : EveryEvent
-unfolding new_state put_back
+unfolding new_state reset_state
 every_event = record {
   first_state = λ x. record {
     settings = refl;
@@ -308,7 +308,7 @@ every_event = record {
   only_wake_8 = λ s e n. refused_wake s e.moment.at e.kind ((turn_number s e).2 n);
   only_start_up_9 = λ s e n. late_start_up s e.moment.at e.kind ((turn_number s e).3 n);
   stopped_accepted = λ s e z q.
-      let same = event_stopped s e z q in
+      let same = event_options_stop s e z q in
       (ap (λ (o : Outcome). o.number) same, ap (λ (o : Outcome). o.actions) same, ap (λ (o : Outcome). o.state) same);
   at_most_seven = at_most_seven;
   slots_are_actions = λ s e. unpacked (event_of s e) (at_most_seven s e);

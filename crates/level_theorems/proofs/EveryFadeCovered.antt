@@ -13,16 +13,16 @@ use Rattle.transitions.specs.declared.tasks.OnReaction.{OnReaction}
 use Rattle.transitions.specs.declared.tasks.Task.{Task}
 use Rattle.transitions.specs.declared.tasks.Task.TheVariants as task
 use Rattle.level_control.specs.Answer.{Outcome}
-use Rattle.level_control.specs.Events.{number_of, event_of}
+use Rattle.level_control.specs.Handle.{number_of, event_of}
 use Rattle.level_control.specs.Run.{count_answer, is_onward}
 use Rattle.level_control.specs.Starts.{Start, NoFade, Fades, start_of, on_start_at}
 use Rattle.level_theorems.specs.Covered.{Begins, NoneNamed, Covered, starts, starts_on, no_fade, goes_on, as_it_was}
 use Rattle.level_theorems.specs.FadeTheorems.{EveryFadeCovered}
 use Rattle.level_control.specs.declared.state.LevelControlState.{LevelControlState}
-use Rattle.level_control.proofs.EventLaws.{event_stopped, event_runs, stopped_in}
+use Rattle.level_control.proofs.EventLaws.{event_options_stop, event_runs, options_stop_in}
 use Rattle.level_control.proofs.StartLaws.{Starting, go_to_starts, direct_starts, on_starts, on_answered_is}
 use Rattle.level_control.proofs.EveryFade.{accepted_zero}
-use Rattle.level_theorems.proofs.TaskLaws.{Becomes, gone, reacts, further, stays, is_plain}
+use Rattle.level_theorems.proofs.TaskSteps.{Becomes, gone, reacts, further, stays, is_plain}
 use Rattle.level_theorems.proofs.Coverage.{Reacts, runs_none}
 use Rattle.transitions.specs.declared.events.Command.TheVariants as command
 
@@ -87,12 +87,12 @@ module _ (s : LevelControlState) (at : Micros) (on : Bool) where
   -- where none is named
   none_starts : (k : EventKind) → number_of s (event at on k) ≡ 0 → NoneNamed s (event at on k)
       → Covered s (event at on k) (event_of s (event at on k)).state
-  none_starts k z n = by (stopped_in s (event at on k)) refl
+  none_starts k z n = by (options_stop_in s (event at on k)) refl
     where
-      by : (b : Bool) → stopped_in s (event at on k) ≡ b → Covered s (event at on k) (event_of s (event at on k)).state
+      by : (b : Bool) → options_stop_in s (event at on k) ≡ b → Covered s (event at on k) (event_of s (event at on k)).state
       by true q =
           covers (Reacts s at on k) s (event at on k) _ n
-          (stays (ap (λ (o : Outcome). o.state.task) (event_stopped s (event at on k) z q)))
+          (stays (ap (λ (o : Outcome). o.state.task) (event_options_stop s (event at on k) z q)))
       by false q =
           covers (Reacts s at on k) s (event at on k) _ n
           (subst (λ (o : Outcome). Becomes (Reacts s at on k) s.task (is_onward k) o.state.task) (sym (event_runs s (event at on k) z q)) (runs_none s at on k q n))

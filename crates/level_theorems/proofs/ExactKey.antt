@@ -16,7 +16,7 @@ use Rattle.transitions.specs.declared.events.DeviceAnswer.TheVariants as device
 use Rattle.transitions.specs.declared.events.Event.{Event}
 use Rattle.transitions.specs.declared.events.EventKind.{EventKind}
 use Rattle.transitions.specs.declared.events.EventKind.TheVariants as kind
-use Rattle.transitions.specs.declared.tasks.MoveCourse.{MoveCourse}
+use Rattle.transitions.specs.declared.tasks.Motion.{Motion}
 use Rattle.transitions.specs.declared.tasks.MoveStep.{MoveStep}
 use Rattle.transitions.specs.declared.tasks.MoveStep.TheVariants as step
 use Rattle.transitions.specs.declared.tasks.Task.{Task}
@@ -25,8 +25,8 @@ use Rattle.level_control.specs.State.{accept}
 use Rattle.level_control.specs.Targets.{quiet}
 use Rattle.level_control.specs.Fades.{fade_woken}
 use Rattle.level_control.specs.Moves.{move_by, move_goes_on}
-use Rattle.level_control.specs.Events.{woken_in, woken, run, number_of}
-use Rattle.level_control.specs.Causes.{command_tests_of}
+use Rattle.level_control.specs.Handle.{woken_in, woken, run, number_of}
+use Rattle.level_control.specs.Judge.{command_tests_of}
 use Rattle.level_control.specs.Run.{Run, Pending, accepted, is_onward, only_onward, started, next, play}
 use Rattle.level_control.specs.Starts.{distance}
 use Rattle.level_theorems.specs.FadeTheorems.{ExactKey}
@@ -46,7 +46,7 @@ woken_time : (s : LevelControlState) (at : Micros) (on : Bool) → (woken s at o
 unfolding woken fade_woken move_goes_on
 woken_time s at on = by s.task
   where
-    move : (m : MoveCourse) (n : MoveStep) → (move_by n (quiet s) m at on).state.remaining_time ≡ s.remaining_time
+    move : (m : Motion) (n : MoveStep) → (move_by n (quiet s) m at on).state.remaining_time ≡ s.remaining_time
     move m step.Lost = refl
     move m step.Ends = refl
     move m (step.Asks asked) = refl
@@ -55,7 +55,7 @@ woken_time s at on = by s.task
     by task.Rest = refl
     by task.StartUp = refl
     by (task.Fade f) = refl
-    by (task.Move m) = move m.course (next_move s.current_level m.course.mode)
+    by (task.Move m) = move m.motion (next_move s.current_level m.motion.mode)
     by (task.OnReaction r) = refl
 
 abbrev Quiet : Tenths → Run → Type 0

@@ -8,11 +8,12 @@ use lib.ListN.{length}
 use mathlib.Core.List.{List, [], ◌∷◌}
 use Rattle.units.specs.Units.{scaled_floor}
 use Rattle.transitions.specs.Actions.{reports_of}
-use Rattle.level_control.specs.Causes.{command_tests_of, move_to_level_tests, time_refused, turn_tests}
-use Rattle.level_control.specs.Events.{answered_in, answered, event_of, number_of, run}
+use Rattle.level_control.specs.Judge.{command_tests_of, move_to_level_tests, time_refused, turn_tests}
+use Rattle.level_control.specs.Handle.{answered_in, answered, event_of, number_of, run}
 use Rattle.level_control.specs.Fades.{fade_answered, fade_coupling, fade_ended, fade_goes_on, fade_stored, fade_told, move_to_level_transition}
 use Rattle.level_control.specs.Reactions.{on_answered, on_goes_on, switched, turned_on}
-use Rattle.level_control.specs.Reports.{coupled_by, level_due, set_level, told_level, write_remaining_time}
+use Rattle.level_control.specs.Coupling.{coupled_by}
+use Rattle.level_control.specs.Reports.{level_due, set_level, told_level, write_remaining_time}
 use Rattle.level_control.specs.State.{accept, new_state}
 use Rattle.level_control.specs.declared.state.LevelControlState.{LevelControlState}
 use Rattle.level_control.proofs.EventLaws.{event_number, event_runs}
@@ -22,11 +23,11 @@ use Rattle.transitions.specs.Commands.{step_level, step_time, target_level}
 use Rattle.transitions.specs.Coupling.{coupled_on_off}
 use Rattle.transitions.specs.CurrentLevel.{current_level_due}
 use Rattle.transitions.specs.Fade.{fade_period, is_transition_start, next_level, remaining_after, wait_or_ask}
-use Rattle.transitions.specs.Moves.{move_period}
+use Rattle.transitions.specs.MovePeriod.{move_period}
 use Rattle.transitions.specs.RemainingTime.{remaining_time_due}
-use Rattle.transitions.specs.Tasks.{level_to_restore, begin_fade, fade_asking, fade_from}
+use Rattle.transitions.specs.Tasks.{level_to_put_back, begin_fade, fade_asking, fade_from}
 use Rattle.transitions.specs.Types.{Level, level_or, same_level, time_or}
-use Rattle.transitions.specs.Events.{action, act}
+use Rattle.transitions.specs.Actions.{action, act}
 use Rattle.transitions.specs.declared.actions.ActionKind.TheVariants.{D, P, S, L, E}
 use Rattle.transitions.specs.declared.events.Command.TheVariants as command
 use Rattle.transitions.specs.declared.events.DeviceAnswer.TheVariants as device
@@ -55,7 +56,7 @@ keys [] = []
 keys (r ∷ rs) = r.key ∷ keys rs
 
 computed : answers table ≡ keys table
-unfolding answer_to answered begin_fade command_tests_of coupled_by coupled_on_off current_level_due event_of fade_answered fade_asking fade_coupling fade_ended fade_from fade_goes_on fade_period fade_stored fade_told first_cause go_to is_transition_start level_due level_or level_to_restore move_period move_to_level_tests move_to_level_transition moved_to_level new_state next_level number_of on_answered on_goes_on remaining_after remaining_time_due reports_of run same_level scaled_floor set_level step_level step_time switched target_level time_or time_refused told_level turn_tests turned_on wait_or_ask write_remaining_time
+unfolding answer_to answered begin_fade command_tests_of coupled_by coupled_on_off current_level_due event_of fade_answered fade_asking fade_coupling fade_ended fade_from fade_goes_on fade_period fade_stored fade_told first_cause go_to is_transition_start level_due level_or level_to_put_back move_period move_to_level_tests move_to_level_transition moved_to_level new_state next_level number_of on_answered on_goes_on remaining_after remaining_time_due reports_of run same_level scaled_floor set_level step_level step_time switched target_level time_or time_refused told_level turn_tests turned_on wait_or_ask write_remaining_time
 computed = refl
 
 hold : (rs : List KeyRow) → answers rs ≡ keys rs → AllHold rs
@@ -123,7 +124,7 @@ on_lost s e a v none no_on k z k' z' =
     )
 
 pub keys_hold : Keys
-unfolding next answer_to answered begin_fade command_tests_of coupled_by coupled_on_off current_level_due event_of fade_answered fade_asking fade_coupling fade_ended fade_from fade_goes_on fade_period fade_stored fade_told first_cause go_to is_transition_start level_due level_or level_to_restore move_period move_to_level_tests move_to_level_transition moved_to_level new_state next_level number_of on_answered on_goes_on remaining_after remaining_time_due reports_of run same_level scaled_floor set_level step_level step_time switched target_level time_or time_refused told_level turn_tests turned_on wait_or_ask write_remaining_time
+unfolding next answer_to answered begin_fade command_tests_of coupled_by coupled_on_off current_level_due event_of fade_answered fade_asking fade_coupling fade_ended fade_from fade_goes_on fade_period fade_stored fade_told first_cause go_to is_transition_start level_due level_or level_to_put_back move_period move_to_level_tests move_to_level_transition moved_to_level new_state next_level number_of on_answered on_goes_on remaining_after remaining_time_due reports_of run same_level scaled_floor set_level step_level step_time switched target_level time_or time_refused told_level turn_tests turned_on wait_or_ask write_remaining_time
 keys_hold = record {
   hold = hold table computed;
   no_other = refl;

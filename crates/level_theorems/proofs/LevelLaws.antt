@@ -12,7 +12,7 @@ use Rattle.transitions.specs.declared.tasks.Fade.{Fade}
 use Rattle.transitions.specs.declared.tasks.Task.{Task}
 use Rattle.transitions.specs.declared.tasks.Task.TheVariants as task
 use Rattle.transitions.specs.Types.{Level}
-use Rattle.event_theorems.specs.Brings.{brings, answer_tells, start_up_tells, fade_back, task_tells, task_back}
+use Rattle.event_theorems.specs.Brings.{brings, answer_tells, start_up_tells, fade_puts_back, task_tells, task_puts_back}
 use Rattle.event_theorems.specs.Fields.{level_told, level_after, attributes_after}
 use Rattle.level_theorems.specs.EveryEvent as claim
 use Rattle.level_theorems.specs.EveryEvent.{LevelFrom, AttributesFrom, unchanged, by_set_on_level, by_set_default_move_rate, by_set_start_up, by_factory_reset}
@@ -32,23 +32,23 @@ module _ (s : LevelControlState) where
   start_up_from device.Failed = claim.kept
 
   -- a fade may store the level before it back
-  level_from_fade : (f : Fade) (a : DeviceAnswer) (last : Bool) (on : Level) (after : Option ℕ)
-      → s.task ≡ task.Fade f → eqb f.counter f.target ≡ last → s.attributes.on_level ≡ on → f.after ≡ after
-      → LevelFrom s (kind.Answer a) (level_or (fade_back a last on after) (level_told (answer_tells a last) s.current_level))
+  level_from_fade : (f : Fade) (a : DeviceAnswer) (last : Bool) (on : Level) (put_back : Option ℕ)
+      → s.task ≡ task.Fade f → eqb f.counter f.target ≡ last → s.attributes.on_level ≡ on → f.put_back ≡ put_back
+      → LevelFrom s (kind.Answer a) (level_or (fade_puts_back a last on put_back) (level_told (answer_tells a last) s.current_level))
   unfolding level_or
-  level_from_fade f (device.Level v) true None (Some before) runs ends none back = claim.restored runs ends back (ap is_missing none) refl
+  level_from_fade f (device.Level v) true None (Some before) runs ends none back = claim.put_back runs ends back (ap is_missing none) refl
   level_from_fade f (device.Level v) true None None runs ends none back = claim.answered refl
-  level_from_fade f (device.Level v) true (Some on) after runs ends none back = claim.answered refl
-  level_from_fade f (device.Level v) false on after runs ends none back = claim.answered refl
-  level_from_fade f device.Missing last on after runs ends none back = claim.missing refl
-  level_from_fade f device.Failed last on after runs ends none back = claim.kept
+  level_from_fade f (device.Level v) true (Some on) put_back runs ends none back = claim.answered refl
+  level_from_fade f (device.Level v) false on put_back runs ends none back = claim.answered refl
+  level_from_fade f device.Missing last on put_back runs ends none back = claim.missing refl
+  level_from_fade f device.Failed last on put_back runs ends none back = claim.kept
 
   answer_from : (a : DeviceAnswer) (x : Task) → s.task ≡ x
-      → LevelFrom s (kind.Answer a) (level_or (task_back x s a) (level_told (task_tells x s a) s.current_level))
+      → LevelFrom s (kind.Answer a) (level_or (task_puts_back x s a) (level_told (task_tells x s a) s.current_level))
   unfolding level_or
   answer_from a task.Rest e = claim.kept
   answer_from a task.StartUp e = start_up_from a
-  answer_from a (task.Fade f) e = level_from_fade f a (eqb f.counter f.target) s.attributes.on_level f.after e refl refl refl
+  answer_from a (task.Fade f) e = level_from_fade f a (eqb f.counter f.target) s.attributes.on_level f.put_back e refl refl refl
   answer_from a (task.Move m) e = answered_from a _
   answer_from a (task.OnReaction r) e = answered_from a false
 

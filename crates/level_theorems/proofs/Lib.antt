@@ -1,3 +1,4 @@
+-- The files of lemmas, each over those before it.
 pub mod LevelLaws
 pub mod PatternLaws
 pub mod ShapeLaws
@@ -6,7 +7,7 @@ pub mod WaitLaws
 pub mod EveryEventLaws
 pub mod PathTheorem
 pub mod Acceptance
-pub mod TaskLaws
+pub mod TaskSteps
 pub mod Coverage
 pub mod EveryFadeCovered
 pub mod StartTimes

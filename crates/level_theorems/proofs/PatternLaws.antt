@@ -9,7 +9,7 @@ use borrow.Author.Tests.{leb-true}
 use lib.Dec.{leb}
 use lib.ListN.{length}
 use Rattle.std.proofs.lemmas.Bool.{and_parts}
-use Rattle.transitions.specs.Events.{act, act_if, act_coupled}
+use Rattle.transitions.specs.Actions.{act, act_if, act_coupled}
 use Rattle.transitions.specs.declared.actions.Action.{Action}
 use Rattle.transitions.specs.declared.actions.ActionKind.{ActionKind}
 use Rattle.transitions.specs.declared.actions.ActionKind.TheVariants.{C}

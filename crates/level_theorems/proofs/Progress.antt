@@ -22,9 +22,9 @@ use Rattle.transitions.specs.declared.tasks.Task.{Task}
 use Rattle.transitions.specs.declared.tasks.Task.TheVariants as task
 use Rattle.level_control.specs.State.{accept}
 use Rattle.level_control.specs.Answer.{Outcome}
-use Rattle.level_control.specs.Causes.{latest}
+use Rattle.level_control.specs.Judge.{latest}
 use Rattle.level_control.specs.Fades.{fade_woken}
-use Rattle.level_control.specs.Events.{woken_in, number_of, event_of}
+use Rattle.level_control.specs.Handle.{woken_in, number_of, event_of}
 use Rattle.level_control.specs.Run.{Run, accepted, count_answer, is_onward, started, next_by, next, play, only_onward}
 use Rattle.level_control.specs.Starts.{distance}
 use Rattle.level_control.specs.EveryFade.{Shown}

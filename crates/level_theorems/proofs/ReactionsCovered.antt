@@ -18,16 +18,16 @@ use Rattle.level_control.specs.Answer.{Outcome}
 use Rattle.level_control.specs.Fades.{device_failed}
 use Rattle.level_control.specs.Moves.{move_missing}
 use Rattle.level_control.specs.Reactions.{on_answered}
-use Rattle.level_control.specs.Causes.{turn_tests, command_tests_of}
-use Rattle.level_control.specs.Events.{answered_in, answered, run, number_of, event_of}
+use Rattle.level_control.specs.Judge.{turn_tests, command_tests_of}
+use Rattle.level_control.specs.Handle.{answered_in, answered, run, number_of, event_of}
 use Rattle.level_control.specs.Run.{is_onward}
 use Rattle.level_control.specs.Starts.{Start, NoFade, Fades, start_of, on_start_at}
 use Rattle.level_theorems.specs.FadeTheorems.{ReactionsCovered}
 use Rattle.level_control.specs.declared.state.LevelControlState.{LevelControlState}
-use Rattle.level_control.proofs.EventLaws.{event_stopped, event_runs, stopped_in, turn_passes}
+use Rattle.level_control.proofs.EventLaws.{event_options_stop, event_runs, options_stop_in, turn_passes}
 use Rattle.level_control.proofs.StartLaws.{direct_starts, on_starts, on_rests, on_answer, on_answered_is}
 use Rattle.level_control.proofs.EveryFade.{accepted_zero}
-use Rattle.level_theorems.proofs.TaskLaws.{Becomes, gone, reacts, further, stays, is_plain}
+use Rattle.level_theorems.proofs.TaskSteps.{Becomes, gone, reacts, further, stays, is_plain}
 use Rattle.level_theorems.proofs.Coverage.{Reacts, runs_none}
 use Rattle.level_theorems.proofs.EveryFadeCovered.{begins}
 use Rattle.transitions.specs.declared.events.Command.TheVariants as command
@@ -92,13 +92,13 @@ module _ (s : LevelControlState) (at : Micros) (on : Bool) where
   becomes k y r e no-reaction (stays q) = absurd (true≢false (sym (ap is_reaction (sym q ∙ e)) ∙ no-reaction))
 
   fresh : (k : EventKind) (r : OnReaction) → number_of s (event at on k) ≡ 0 → is_reaction s.task ≡ false → after k ≡ task.OnReaction r → Reacts s at on k r
-  fresh k r z no-reaction e = by (start_of s on k) refl (stopped_in s (event at on k)) refl
+  fresh k r z no-reaction e = by (start_of s on k) refl (options_stop_in s (event at on k)) refl
     where
-      by : (x : Start) → start_of s on k ≡ x → (b : Bool) → stopped_in s (event at on k) ≡ b → Reacts s at on k r
+      by : (x : Start) → start_of s on k ≡ x → (b : Bool) → options_stop_in s (event at on k) ≡ b → Reacts s at on k r
       by (Fades c t T) named b q =
           absurd (true≢false (sym (ap is_reaction e) ∙ ap is_reaction (begins (event_of s (event at on k)) at c t T (direct_starts s at on c t T k z named)).begins))
       by NoFade named true q =
-          absurd (true≢false (sym (ap is_reaction e) ∙ ap (λ (o : Outcome). is_reaction o.state.task) (event_stopped s (event at on k) z q) ∙ no-reaction))
+          absurd (true≢false (sym (ap is_reaction e) ∙ ap (λ (o : Outcome). is_reaction o.state.task) (event_options_stop s (event at on k) z q) ∙ no-reaction))
       by NoFade named false q =
           becomes k (run (accept s at) k at on).state.task r (ap (λ (o : Outcome). o.state.task) (sym (event_runs s (event at on k) z q)) ∙ e) no-reaction
           (runs_none s at on k q (record { direct = named; on = λ b v p u. absurd (true≢false (sym (ap is_reaction p) ∙ no-reaction)) }))

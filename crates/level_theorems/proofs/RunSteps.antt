@@ -25,7 +25,7 @@ use Rattle.transitions.specs.declared.events.MoveRequest.{MoveRequest}
 use Rattle.transitions.specs.declared.events.SceneRequest.{SceneRequest}
 use Rattle.transitions.specs.declared.events.StepRequest.{StepRequest}
 use Rattle.transitions.specs.declared.tasks.Fade.{Fade}
-use Rattle.transitions.specs.declared.tasks.MoveCourse.{MoveCourse}
+use Rattle.transitions.specs.declared.tasks.Motion.{Motion}
 use Rattle.transitions.specs.declared.tasks.Phase.{Phase}
 use Rattle.transitions.specs.declared.tasks.Phase.TheVariants.{Asked, Waiting}
 use Rattle.transitions.specs.declared.tasks.Task.{Task}
@@ -35,26 +35,26 @@ use Rattle.transitions.specs.declared.types.Mode.TheVariants.{Up, Down}
 use Rattle.transitions.specs.declared.types.OptionsBitmap.{OptionsBitmap}
 use Rattle.transitions.proofs.RuleLaws.{rule_laws}
 use Rattle.level_control.specs.Answer.{Outcome}
-use Rattle.level_control.specs.Causes.{turn_tests, move_to_level_tests, step_tests, scene_tests_at, scene_tests, command_tests_of}
-use Rattle.level_control.specs.Events.{number_of, event_of}
-use Rattle.level_control.specs.Reports.{continues}
+use Rattle.level_control.specs.Judge.{turn_tests, move_to_level_tests, step_tests, scene_tests_at, scene_tests, command_tests_of}
+use Rattle.level_control.specs.Handle.{number_of, event_of}
+use Rattle.level_control.specs.Judge.{continues}
 use Rattle.level_control.specs.Run.{is_onward, with_level}
 use Rattle.level_control.specs.Starts.{NoFade, start_from, target, passes, given_or, step_in, step_to, distance, step_start, scene_start, start_of}
 use Rattle.level_control.specs.declared.state.LevelControlState.{LevelControlState}
-use Rattle.level_control.proofs.EventLaws.{event_stopped, stopped_in, turn_passes, command_passes}
+use Rattle.level_control.proofs.EventLaws.{event_options_stop, options_stop_in, turn_passes, command_passes}
 use Rattle.level_control.proofs.EveryFade.{accepted_zero}
 use Rattle.level_control.proofs.StartLaws.{no_fade, continues_is}
-use Rattle.event_theorems.specs.ByField.{stopped}
+use Rattle.event_theorems.specs.ByField.{options_stop}
 use Rattle.event_theorems.specs.Brings.{brings, step_target, scene_target}
-use Rattle.event_theorems.specs.Course.{course, command_course, AsItWas, AtRest, Asks, Waits, task_on, towards, until, fade_at, fade_on, fade_asks, fade_answer, answer_course, wake, at_limit, step, course_of_move}
+use Rattle.event_theorems.specs.TaskAfter.{task_after, task_after_command, AsItWas, AtRest, Asks, Waits, task_on, towards, until, fade_at, fade_on, fade_asks, fade_answer, task_after_answer, wake, at_limit, step, motion_of}
 use Rattle.event_theorems.specs.Fields.{next_state}
 use Rattle.event_theorems.proofs.ByFieldHolds.{runs_by}
-use Rattle.event_theorems.proofs.NumberLaws.{stopped_is}
+use Rattle.event_theorems.proofs.NumberLaws.{options_stop_is}
 use Rattle.level_theorems.specs.Covered.{SameFade}
 use Rattle.level_theorems.specs.FadeTheorems.{LeavesTask}
 use Rattle.level_theorems.specs.Runs.{FadesFrom, Follows, answers, wakes, leaves, asks_nothing, leaves_task}
 use Rattle.level_theorems.proofs.Coverage.{when_none, passed}
-use Rattle.level_theorems.proofs.TaskLaws.{is_plain}
+use Rattle.level_theorems.proofs.TaskSteps.{is_plain}
 
 -- Between c and t, before t: the counter moves on.
 
@@ -79,25 +79,25 @@ not_fade : (x : Task) (f : Fade) → is_plain x ≡ true → x ≡ task.Fade f �
 not_fade x f h e = true≢false (sym h ∙ ap is_plain e)
 
 -- a target that names no fade leaves none
-towards_rests : (l : Level) (t T : ℕ) (with_on_off scene restores : Bool) (now : Micros) (x : Task) → start_from l t T ≡ NoFade
-    → task_on (towards l t T with_on_off scene restores now) x ≡ task.Rest
-towards_rests (Some c) t T with_on_off scene restores now x e = go (eqb c t) refl
+towards_rests : (l : Level) (t T : ℕ) (with_on_off scene puts_back : Bool) (now : Micros) (x : Task) → start_from l t T ≡ NoFade
+    → task_on (towards l t T with_on_off scene puts_back now) x ≡ task.Rest
+towards_rests (Some c) t T with_on_off scene puts_back now x e = go (eqb c t) refl
   where
-    go : (b : Bool) → eqb c t ≡ b → task_on (towards (Some c) t T with_on_off scene restores now) x ≡ task.Rest
+    go : (b : Bool) → eqb c t ≡ b → task_on (towards (Some c) t T with_on_off scene puts_back now) x ≡ task.Rest
     go true q = rw q refl
     go false q = no_fade c t T (sym (rw q at e))
-towards_rests None t T with_on_off scene restores now x e = refl
+towards_rests None t T with_on_off scene puts_back now x e = refl
 
 -- a move runs, or nothing
-step_plain : (m : MoveCourse) (d : Mode) (l : Level) (now : Micros) (x : Task) → is_plain (task_on (step m d l now) x) ≡ true
+step_plain : (m : Motion) (d : Mode) (l : Level) (now : Micros) (x : Task) → is_plain (task_on (step m d l now) x) ≡ true
 step_plain m Up (Some c) now x = go (ltb c 255)
   where
-    go : (b : Bool) → is_plain (task_on (cond b (Asks (c + 1) (task.Move (record { course = m; asked = c + 1; phase = Asked now }))) AtRest) x) ≡ true
+    go : (b : Bool) → is_plain (task_on (cond b (Asks (c + 1) (task.Move (record { motion = m; asked = c + 1; phase = Asked now }))) AtRest) x) ≡ true
     go true = refl
     go false = refl
 step_plain m Down (Some c) now x = go (ltb 0 c)
   where
-    go : (b : Bool) → is_plain (task_on (cond b (Asks (c - 1) (task.Move (record { course = m; asked = c - 1; phase = Asked now }))) AtRest) x) ≡ true
+    go : (b : Bool) → is_plain (task_on (cond b (Asks (c - 1) (task.Move (record { motion = m; asked = c - 1; phase = Asked now }))) AtRest) x) ≡ true
     go true = refl
     go false = refl
 step_plain m Up None now x = refl
@@ -105,18 +105,18 @@ step_plain m Down None now x = refl
 
 module _ (s : LevelControlState) (at : Micros) (on : Bool) where
   -- the task after an accepted event that no options stop
-  task_is : (k : EventKind) → number_of s (event at on k) ≡ 0 → stopped_in s (event at on k) ≡ false
-      → (event_of s (event at on k)).state.task ≡ task_on (course s (brings s k) at) s.task
+  task_is : (k : EventKind) → number_of s (event at on k) ≡ 0 → options_stop_in s (event at on k) ≡ false
+      → (event_of s (event at on k)).state.task ≡ task_on (task_after s (brings s k) at) s.task
   unfolding next_state
   task_is k z q = ap (λ (o : Outcome). o.state.task) (runs_by s (event at on k) z q)
 
   -- A command after which a fade runs that no command named asks for nothing.
 
   abbrev After : Command → Fade → Type 0
-  After c g = task_on (course s (brings s (kind.Command c)) at) s.task ≡ task.Fade g
+  After c g = task_on (task_after s (brings s (kind.Command c)) at) s.task ≡ task.Fade g
 
   step_leaves : (r : StepRequest) (g : Fade) (l : Level) → s.current_level ≡ l → is_missing l ≡ false → step_start l s r ≡ NoFade
-      → task_on (command_course s (step_target l s r) at) s.task ≡ task.Fade g → ⊥
+      → task_on (task_after_command s (step_target l s r) at) s.task ≡ task.Fade g → ⊥
   step_leaves r g (Some c) q known e h =
       not_fade _ g refl
       (sym
@@ -128,7 +128,7 @@ module _ (s : LevelControlState) (at : Micros) (on : Bool) where
   step_leaves r g None q known e h = true≢false known
 
   scene_leaves : (r : SceneRequest) (g : Fade) (l : Level) → (scene_tests_at l s on).stopped_by_options ≡ false → scene_start l s on r.transition_time.0 ≡ NoFade
-      → task_on (command_course s (scene_target l s r.transition_time.0) at) s.task ≡ task.Fade g → is_missing l ≡ true
+      → task_on (task_after_command s (scene_target l s r.transition_time.0) at) s.task ≡ task.Fade g → is_missing l ≡ true
   scene_leaves r g (Some level) free e h =
       let bits : OptionsBitmap = record { 0 = 0 } in
       let pass = passed level (continues s false on bits bits) free in
@@ -138,13 +138,13 @@ module _ (s : LevelControlState) (at : Micros) (on : Bool) where
   scene_leaves r g None free e h = refl
 
   move_leaves : (r : MoveRequest) (g : Fade) (b : Bool)
-      → task_on (cond b AsItWas (step (course_of_move s r) r.mode s.current_level at)) s.task ≡ task.Fade g → b ≡ true
+      → task_on (cond b AsItWas (step (motion_of s r) r.mode s.current_level at)) s.task ≡ task.Fade g → b ≡ true
   move_leaves r g true h = refl
-  move_leaves r g false h = absurd (not_fade _ g (step_plain (course_of_move s r) r.mode s.current_level at s.task) h)
+  move_leaves r g false h = absurd (not_fade _ g (step_plain (motion_of s r) r.mode s.current_level at s.task) h)
 
-  free_leaves : (c : Command) (g : Fade) → number_of s (event at on (kind.Command c)) ≡ 0 → stopped_in s (event at on (kind.Command c)) ≡ false
+  free_leaves : (c : Command) (g : Fade) → number_of s (event at on (kind.Command c)) ≡ 0 → options_stop_in s (event at on (kind.Command c)) ≡ false
       → start_of s on (kind.Command c) ≡ NoFade → After c g → asks_nothing s (kind.Command c) ≡ true
-  unfolding course start_of command_tests_of move_to_level_tests step_tests scene_tests number_of
+  unfolding task_after start_of command_tests_of move_to_level_tests step_tests scene_tests number_of
   free_leaves (command.MoveToLevel r) g z free e h =
       let pass = passed r.level (continues s r.options.with_on_off on r.options.options_mask r.options.options_override) free in
       let none = when_none (leb 255 r.level || passes s r.options.with_on_off on r.options.options_mask r.options.options_override)
@@ -172,15 +172,15 @@ module _ (s : LevelControlState) (at : Micros) (on : Bool) where
 
   command_leaves : (c : Command) (g : Fade) → number_of s (event at on (kind.Command c)) ≡ 0 → start_of s on (kind.Command c) ≡ NoFade
       → (event_of s (event at on (kind.Command c))).state.task ≡ task.Fade g → leaves_task s (event at on (kind.Command c)) ≡ true
-  command_leaves c g z e h = by (stopped_in s (event at on (kind.Command c))) refl
+  command_leaves c g z e h = by (options_stop_in s (event at on (kind.Command c))) refl
     where
-      by : (b : Bool) → stopped_in s (event at on (kind.Command c)) ≡ b → leaves_task s (event at on (kind.Command c)) ≡ true
-      by true q = or_left _ _ (sym (stopped_is s (event at on (kind.Command c))) ∙ q)
+      by : (b : Bool) → options_stop_in s (event at on (kind.Command c)) ≡ b → leaves_task s (event at on (kind.Command c)) ≡ true
+      by true q = or_left _ _ (sym (options_stop_is s (event at on (kind.Command c))) ∙ q)
       by false q = or_right _ _ (free_leaves c g z q e (sym (task_is (kind.Command c) z q) ∙ h))
 
   -- And what asks for nothing leaves whatever runs as it was.
-  nothing_leaves : (k : EventKind) → asks_nothing s k ≡ true → task_on (course s (brings s k) at) s.task ≡ s.task
-  unfolding course
+  nothing_leaves : (k : EventKind) → asks_nothing s k ≡ true → task_on (task_after s (brings s k) at) s.task ≡ s.task
+  unfolding task_after
   nothing_leaves kind.StartUp h = absurd (true≢false (sym h))
   nothing_leaves (kind.Answer a) h = absurd (true≢false (sym h))
   nothing_leaves kind.Wake h = absurd (true≢false (sym h))
@@ -191,7 +191,7 @@ module _ (s : LevelControlState) (at : Micros) (on : Bool) where
   nothing_leaves (kind.Command (command.OnOffChanged value)) h = absurd (true≢false (sym h))
   nothing_leaves (kind.Command (command.Scene r)) h = by r.level h
     where
-      by : (l : Level) → is_missing l ≡ true → task_on (command_course s (scene_target l s r.transition_time.0) at) s.task ≡ s.task
+      by : (l : Level) → is_missing l ≡ true → task_on (task_after_command s (scene_target l s r.transition_time.0) at) s.task ≡ s.task
       by (Some level) h = absurd (true≢false (sym h))
       by None h = refl
   nothing_leaves (kind.Command (command.DeviceUpdate level)) h = absurd (true≢false (sym h))
@@ -202,12 +202,12 @@ module _ (s : LevelControlState) (at : Micros) (on : Bool) where
   nothing_leaves (kind.Command command.FactoryReset) h = absurd (true≢false (sym h))
 
   leaves_as_was : (k : EventKind) → number_of s (event at on k) ≡ 0 → leaves_task s (event at on k) ≡ true → (event_of s (event at on k)).state.task ≡ s.task
-  leaves_as_was k z h = by (stopped_in s (event at on k)) refl
+  leaves_as_was k z h = by (options_stop_in s (event at on k)) refl
     where
-      by : (b : Bool) → stopped_in s (event at on k) ≡ b → (event_of s (event at on k)).state.task ≡ s.task
-      by true q = ap (λ (o : Outcome). o.state.task) (event_stopped s (event at on k) z q)
+      by : (b : Bool) → options_stop_in s (event at on k) ≡ b → (event_of s (event at on k)).state.task ≡ s.task
+      by true q = ap (λ (o : Outcome). o.state.task) (event_options_stop s (event at on k) z q)
       by false q =
-          let free : stopped s (event at on k) ≡ false = sym (stopped_is s (event at on k)) ∙ q in
+          let free : options_stop s (event at on k) ≡ false = sym (options_stop_is s (event at on k)) ∙ q in
           task_is k z q ∙ nothing_leaves k (rw free at h)
 
   -- A fade that goes on.
@@ -268,12 +268,12 @@ module _ (s : LevelControlState) (at : Micros) (on : Bool) where
 
     answer_goes : (v : ℕ) → number_of s (event at on (kind.Answer (device.Level v))) ≡ 0
         → (event_of s (event at on (kind.Answer (device.Level v)))).state.task ≡ task.Fade g → Goes (kind.Answer (device.Level v))
-    unfolding course command_tests_of
+    unfolding task_after command_tests_of
     answer_goes v z h = by f.phase refl (is_open f (device.Level v) runs z)
       where
         told : task_on (fade_answer (device.Level v) f at) s.task ≡ task.Fade g
         told =
-            ap (λ (x : Task). task_on (answer_course x s (device.Level v) at) s.task) (sym runs)
+            ap (λ (x : Task). task_on (task_after_answer x s (device.Level v) at) s.task) (sym runs)
             ∙ sym (task_is (kind.Answer (device.Level v)) z refl)
             ∙ h
 
@@ -282,7 +282,7 @@ module _ (s : LevelControlState) (at : Micros) (on : Bool) where
         by (Waiting until) p o = absurd (true≢false (sym o))
 
     wake_goes : number_of s (event at on kind.Wake) ≡ 0 → (event_of s (event at on kind.Wake)).state.task ≡ task.Fade g → Goes kind.Wake
-    unfolding course command_tests_of
+    unfolding task_after command_tests_of
     wake_goes z h = by f.phase refl (is_due f runs z)
       where
         told : task_on (fade_asks f f.remaining.0 at) s.task ≡ task.Fade g
@@ -296,8 +296,8 @@ module _ (s : LevelControlState) (at : Micros) (on : Bool) where
     -- a missing or failed answer ends it
     lost_ends : (a : DeviceAnswer) → with_level a ≡ false → number_of s (event at on (kind.Answer a)) ≡ 0
         → (event_of s (event at on (kind.Answer a))).state.task ≡ task.Fade g → ⊥
-    unfolding course command_tests_of
-    lost_ends a w z h = by a w (ap (λ (x : Task). task_on (answer_course x s a at) s.task) (sym runs) ∙ sym (task_is (kind.Answer a) z refl) ∙ h)
+    unfolding task_after command_tests_of
+    lost_ends a w z h = by a w (ap (λ (x : Task). task_on (task_after_answer x s a at) s.task) (sym runs) ∙ sym (task_is (kind.Answer a) z refl) ∙ h)
       where
         by : (a : DeviceAnswer) → with_level a ≡ false → task_on (fade_answer a f at) s.task ≡ task.Fade g → ⊥
         by (device.Level v) w h = true≢false w

@@ -12,7 +12,7 @@ use Rattle.units.specs.declared.Micros.{Micros}
 use Rattle.units.specs.declared.Tenths.{Tenths}
 use Rattle.transitions.specs.Events.{event}
 use Rattle.transitions.specs.Fade.{fade_period}
-use Rattle.transitions.specs.Tasks.{after_fade, fade_from}
+use Rattle.transitions.specs.Tasks.{kept_to_put_back, fade_from}
 use Rattle.transitions.specs.Types.{Level}
 use Rattle.transitions.specs.declared.events.Command.{Command}
 use Rattle.transitions.specs.declared.events.Command.TheVariants as command
@@ -27,7 +27,7 @@ use Rattle.transitions.specs.declared.tasks.OnReaction.{OnReaction}
 use Rattle.transitions.specs.declared.tasks.Task.TheVariants as task
 use Rattle.level_control.specs.Answer.{Outcome}
 use Rattle.level_control.specs.EveryFade.{Starts, directly, after_on}
-use Rattle.level_control.specs.Events.{event_of}
+use Rattle.level_control.specs.Handle.{event_of}
 use Rattle.level_control.specs.Reached.{ReachedFrom}
 use Rattle.level_control.specs.Run.{Run, accepted, is_onward, started, next, only_onward, all_refused, state_after}
 use Rattle.level_control.specs.Starts.{Fades, distance, step_start, scene_start, start_of, on_start_at, on_start}
@@ -148,10 +148,10 @@ begins_from c r at ne =
       between = moved.0;
       left = moved.1;
       more = λ until q. let z : ◌≡◌ {A = ℕ} 0 1 = cc in omega arith;
-      back = λ before q. put_back_is r.restores before q;
+      back = λ before q. put_back_is r.puts_back before q;
     }
   where
-    put_back_is : (b : Bool) (before : ℕ) → after_fade b c ≡ Some before → before ≡ c
+    put_back_is : (b : Bool) (before : ℕ) → kept_to_put_back b c ≡ Some before → before ≡ c
     put_back_is true before q = cc
     put_back_is false before q = let z : ◌≡◌ {A = ℕ} 0 1 = cc in omega arith
 
@@ -331,7 +331,7 @@ module _ (x : Settings) where
           let tasks : task.Fade f ≡ task.Fade g = sym q' ∙ q in
           let is : f ≡ g = cc in
           on f p n
-          (subst (SameFade f) is (record { with_on_off = refl; scene = refl; target = refl; time = refl; period = refl; after = refl }))
+          (subst (SameFade f) is (record { with_on_off = refl; scene = refl; target = refl; time = refl; period = refl; put_back = refl }))
           (λ z. is)
 
   known_next : (es : List Event) (e : Event) → Known es (state_after First es) → Known (es ++ (e ∷ [])) (event_of (state_after First es) e).state

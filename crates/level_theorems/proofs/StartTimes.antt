@@ -22,14 +22,14 @@ use Rattle.level_control.specs.Answer.{Outcome}
 use Rattle.level_control.specs.Reports.{set_level, told_level}
 use Rattle.level_control.specs.Targets.{go_to_by, go_to, moved_to_level, stepped_time, stepped_by, stepped_from, stepped, recalled_at, recalled}
 use Rattle.level_control.specs.Reactions.{turned_off, switched, on_to, on_goes_on}
-use Rattle.level_control.specs.Events.{run, number_of, event_of}
+use Rattle.level_control.specs.Handle.{run, number_of, event_of}
 use Rattle.level_control.specs.Run.{accepted, all_refused, state_after}
 use Rattle.level_control.specs.Starts.{Fades, start_of}
 use Rattle.level_control.specs.EveryFade.{Starts, directly, after_on}
 use Rattle.level_theorems.specs.Runs.{given_in}
 use Rattle.level_control.specs.Reports.{Told}
 use Rattle.level_control.specs.declared.state.LevelControlState.{LevelControlState}
-use Rattle.level_control.proofs.EventLaws.{event_stopped, event_runs, stopped_in}
+use Rattle.level_control.proofs.EventLaws.{event_options_stop, event_runs, options_stop_in}
 use Rattle.level_control.proofs.StartLaws.{no_fade, reacting, on_is, refused_stays, on_answer, on_answered_is}
 use Rattle.level_control.proofs.EveryFade.{accepted_zero}
 use Rattle.units.specs.declared.Tenths.{Tenths}
@@ -86,10 +86,10 @@ run_time s at on c t T (kind.Command command.FactoryReset) e = no_fade c t T e
 
 direct_time : (s : LevelControlState) (e : Event) (c t T : ℕ) → number_of s e ≡ 0 → start_of s e.moment.on_off e.kind ≡ Fades c t T
     → (event_of s e).state.remaining_time ≡ s.remaining_time
-direct_time s e c t T z named = by (stopped_in s e) refl
+direct_time s e c t T z named = by (options_stop_in s e) refl
   where
-    by : (b : Bool) → stopped_in s e ≡ b → (event_of s e).state.remaining_time ≡ s.remaining_time
-    by true q = ap (λ (o : Outcome). o.state.remaining_time) (event_stopped s e z q)
+    by : (b : Bool) → options_stop_in s e ≡ b → (event_of s e).state.remaining_time ≡ s.remaining_time
+    by true q = ap (λ (o : Outcome). o.state.remaining_time) (event_options_stop s e z q)
     by false q =
         ap (λ (o : Outcome). o.state.remaining_time) (event_runs s e z q)
         ∙ run_time s e.moment.at e.moment.on_off c t T e.kind named

@@ -7,12 +7,12 @@ use Rattle.transitions.specs.declared.tasks.Phase.TheVariants.{Asked, Waiting}
 use Rattle.transitions.specs.declared.tasks.Task.{Task}
 use Rattle.transitions.specs.declared.tasks.Task.TheVariants as task
 use Rattle.level_control.specs.Run.{Run, Pending, started, play}
-use Rattle.level_theorems.specs.Uninterrupted.{open_in, open_of}
+use Rattle.level_theorems.specs.Uninterrupted.{phase_shows, open_of}
 use Rattle.level_theorems.specs.FadeTheorems.{TaskAgrees}
 use Rattle.level_control.proofs.FadeInvariant.{Inv, pending_in}
 use Rattle.level_control.proofs.EveryFade.{kept}
 
-in_phase : (q : Phase) → pending_in q ≡ open_in q
+in_phase : (q : Phase) → pending_in q ≡ phase_shows q
 in_phase (Asked since) = refl
 in_phase (Waiting until) = refl
 

@@ -17,8 +17,8 @@ use Rattle.transitions.specs.declared.tasks.Phase.TheVariants.{Asked, Waiting}
 use Rattle.transitions.specs.declared.tasks.Task.{Task}
 use Rattle.transitions.specs.declared.tasks.Task.TheVariants as task
 use Rattle.level_control.specs.Answer.{Outcome}
-use Rattle.level_control.specs.Causes.{turn_tests}
-use Rattle.level_control.specs.Events.{number_of, event_of}
+use Rattle.level_control.specs.Judge.{turn_tests}
+use Rattle.level_control.specs.Handle.{number_of, event_of}
 use Rattle.level_control.specs.EveryFade.{Starts}
 use Rattle.level_control.specs.Run.{Run, Pending, accepted, started, next, play, is_onward, only_onward, all_refused}
 use Rattle.level_control.specs.declared.state.LevelControlState.{LevelControlState}

@@ -8,7 +8,7 @@ use native.Mathlib.Omega.{arith}
 use lib.Dec.{eqb, leb, ltb}
 use Rattle.units.specs.Units.{micros}
 use Rattle.units.specs.declared.Micros.{Micros}
-use Rattle.transitions.specs.Events.{action, act, act_if, act_coupled}
+use Rattle.transitions.specs.Actions.{action, act, act_if, act_coupled}
 use Rattle.transitions.specs.Matter.{changed}
 use Rattle.transitions.specs.declared.actions.Action.{Action}
 use Rattle.transitions.specs.declared.actions.ActionKind.{ActionKind}
@@ -19,7 +19,7 @@ use Rattle.transitions.specs.declared.events.EventKind.{EventKind}
 use Rattle.transitions.specs.declared.events.EventKind.TheVariants as kind
 use Rattle.transitions.specs.declared.tasks.Fade.{Fade}
 use Rattle.transitions.specs.declared.tasks.Move.{Move}
-use Rattle.transitions.specs.declared.tasks.MoveCourse.{MoveCourse}
+use Rattle.transitions.specs.declared.tasks.Motion.{Motion}
 use Rattle.transitions.specs.declared.tasks.Phase.{Phase}
 use Rattle.transitions.specs.declared.tasks.Phase.TheVariants.{Asked, Waiting}
 use Rattle.transitions.specs.declared.tasks.Task.{Task}
@@ -31,11 +31,11 @@ use Rattle.level_control.specs.Answer.{Outcome}
 use Rattle.level_control.specs.Starts.{given_or, target}
 use Rattle.level_control.specs.declared.state.LevelControlState.{LevelControlState}
 use Rattle.event_theorems.specs.Brings as bring
-use Rattle.event_theorems.specs.Brings.{Brings, Command, Answers, Runs, brings, is_end, scene_target, step_target, stored_back, tells, turned}
-use Rattle.event_theorems.specs.Course as course
-use Rattle.event_theorems.specs.Course.{Course, course_letter, task_on, towards}
+use Rattle.event_theorems.specs.Brings.{Brings, TaskEvent, Answers, Runs, brings, is_end, scene_target, step_target, put_back_by, tells, turned}
+use Rattle.event_theorems.specs.TaskAfter as becomes
+use Rattle.event_theorems.specs.TaskAfter.{TaskAfter, task_letter, task_on, towards}
 use Rattle.event_theorems.specs.Fields.{level_told, next_state}
-use Rattle.event_theorems.specs.Letters.{back_letters, changes, couples_first, couples_last, letters, notices, reports_level, reports_time, setting_letter}
+use Rattle.event_theorems.specs.Letters.{put_back_letters, changes, couples_first, couples_last, letters, notices, reports_level, reports_time, setting_letter}
 use Rattle.event_theorems.proofs.AnswerLaws.{at_task}
 use Rattle.event_theorems.proofs.RunLaws.{gives}
 use Rattle.level_theorems.specs.EveryEvent.{InPhase}
@@ -75,7 +75,7 @@ pub data Waited (s : LevelControlState) (k : EventKind) (o : Outcome) : Type 0 w
       → (since.0 ≤ 18446744073709551615 → since.0 ≤ until.0) → InPhase o.state.task (Waiting until)
       → waits_in o.actions ≡ until.0 ∷ [] → Waited s k o
 
--- Of an event's letters none but its course's is a W.
+-- Of an event's letters none but its task's is a W.
 
 no_more : (l r : List Action) → waits_in l ≡ [] → waits_in (l ++ r) ≡ waits_in r
 no_more l r e = waits_append l r ∙ ap (λ (x : List ℕ). x ++ waits_in r) e
@@ -88,9 +88,9 @@ coupled_free : (c : Option Bool) → waits_in (act_coupled c) ≡ []
 coupled_free (Some wanted) = refl
 coupled_free None = refl
 
-back_free : (l told : Level) → waits_in (back_letters l told) ≡ []
-back_free (Some before) told = let b = changed told (Some before) in no_more (act_if b P) (act L 0) (if_free b P refl)
-back_free None told = refl
+put_back_free : (l told : Level) → waits_in (put_back_letters l told) ≡ []
+put_back_free (Some before) told = let b = changed told (Some before) in no_more (act_if b P) (act L 0) (if_free b P refl)
+put_back_free None told = refl
 
 setting_free : (b : Brings) → waits_in (setting_letter b) ≡ []
 setting_free (Runs c) = refl
@@ -100,7 +100,7 @@ setting_free (bring.Updates level) = refl
 setting_free (bring.Sets a) = refl
 setting_free bring.Resets = refl
 
-letters_waits : (s : LevelControlState) (b : Brings) (at : Micros) (on : Bool) → waits_in (letters s b at on) ≡ waits_in (course_letter (course.course s b at))
+letters_waits : (s : LevelControlState) (b : Brings) (at : Micros) (on : Bool) → waits_in (letters s b at on) ≡ waits_in (task_letter (becomes.task_after s b at))
 unfolding letters
 letters_waits s b at on =
     let p = changes (tells s b) s.current_level in
@@ -111,129 +111,129 @@ letters_waits s b at on =
     ∙ no_more (act_coupled (couples_first s b on)) _ (coupled_free (couples_first s b on))
     ∙ no_more (act_if (reports_level s b at) L) _ (if_free (reports_level s b at) L refl)
     ∙ no_more (act_if (reports_time s b) R) _ (if_free (reports_time s b) R refl)
-    ∙ no_more (back_letters (stored_back s b) told) _ (back_free (stored_back s b) told)
+    ∙ no_more (put_back_letters (put_back_by s b) told) _ (put_back_free (put_back_by s b) told)
     ∙ no_more (act_coupled (couples_last s b on at)) _ (coupled_free (couples_last s b on at))
 
--- A course waits only after an answer with a level.
+-- A task waits only after an answer with a level.
 
-data CourseWaits (s : LevelControlState) (k : EventKind) : Course → Type 0 where
-  calm : (c : Course) → waits_in (course_letter c) ≡ [] → CourseWaits s k c
+data TaskAfterWaits (s : LevelControlState) (k : EventKind) : TaskAfter → Type 0 where
+  calm : (c : TaskAfter) → waits_in (task_letter c) ≡ [] → TaskAfterWaits s k c
   waiting : (v : ℕ) (since : Micros) (u : ℕ) (t : Task) → k ≡ kind.Answer (device.Level v) → InPhase s.task (Asked since)
-      → (since.0 ≤ 18446744073709551615 → since.0 ≤ u) → InPhase t (Waiting (micros u)) → CourseWaits s k (course.Waits u t)
+      → (since.0 ≤ 18446744073709551615 → since.0 ≤ u) → InPhase t (Waiting (micros u)) → TaskAfterWaits s k (becomes.Waits u t)
 
-calm_cond : (b : Bool) (x y : Course) → waits_in (course_letter x) ≡ [] → waits_in (course_letter y) ≡ [] → waits_in (course_letter (cond b x y)) ≡ []
+calm_cond : (b : Bool) (x y : TaskAfter) → waits_in (task_letter x) ≡ [] → waits_in (task_letter y) ≡ [] → waits_in (task_letter (cond b x y)) ≡ []
 calm_cond true x y p q = p
 calm_cond false x y p q = q
 
-step_calm : (m : MoveCourse) (mode : Mode) (l : Level) (at : Micros) → waits_in (course_letter (course.step m mode l at)) ≡ []
+step_calm : (m : Motion) (mode : Mode) (l : Level) (at : Micros) → waits_in (task_letter (becomes.step m mode l at)) ≡ []
 step_calm m Up (Some c) at = calm_cond (ltb c 255) _ _ refl refl
 step_calm m Down (Some c) at = calm_cond (ltb 0 c) _ _ refl refl
 step_calm m Up None at = refl
 step_calm m Down None at = refl
 
-towards_calm : (l : Level) (t T : ℕ) (with_on_off scene restores : Bool) (at : Micros) → waits_in (course_letter (towards l t T with_on_off scene restores at)) ≡ []
-towards_calm (Some c) t T with_on_off scene restores at = calm_cond (eqb c t) _ _ refl refl
-towards_calm None t T with_on_off scene restores at = refl
+towards_calm : (l : Level) (t T : ℕ) (with_on_off scene puts_back : Bool) (at : Micros) → waits_in (task_letter (towards l t T with_on_off scene puts_back at)) ≡ []
+towards_calm (Some c) t T with_on_off scene puts_back at = calm_cond (eqb c t) _ _ refl refl
+towards_calm None t T with_on_off scene puts_back at = refl
 
-start_up_calm : (l c : Level) (s : LevelControlState) → waits_in (course_letter (course.start_up l c s)) ≡ []
+start_up_calm : (l c : Level) (s : LevelControlState) → waits_in (task_letter (becomes.start_up l c s)) ≡ []
 start_up_calm (Some level) c s = refl
 start_up_calm None (Some level) s = refl
 start_up_calm None None s = refl
 
-wake_calm : (x : Task) (s : LevelControlState) (at : Micros) → waits_in (course_letter (course.wake x s at)) ≡ []
+wake_calm : (x : Task) (s : LevelControlState) (at : Micros) → waits_in (task_letter (becomes.wake x s at)) ≡ []
 wake_calm task.Rest s at = refl
 wake_calm task.StartUp s at = refl
 wake_calm (task.Fade f) s at = refl
-wake_calm (task.Move m) s at = step_calm m.course m.course.mode s.current_level at
+wake_calm (task.Move m) s at = step_calm m.motion m.motion.mode s.current_level at
 wake_calm (task.OnReaction r) s at = refl
 
-command_calm : (s : LevelControlState) (c : Command) (at : Micros) → waits_in (course_letter (course.command_course s c at)) ≡ []
+command_calm : (s : LevelControlState) (c : TaskEvent) (at : Micros) → waits_in (task_letter (becomes.task_after_command s c at)) ≡ []
 command_calm s bring.StartUp at = start_up_calm s.attributes.start_up_current_level s.current_level s
-command_calm s (bring.Target t T with_on_off scene restores) at = towards_calm s.current_level t T with_on_off scene restores at
+command_calm s (bring.Target t T with_on_off scene puts_back) at = towards_calm s.current_level t T with_on_off scene puts_back at
 command_calm s bring.NoTarget at = refl
-command_calm s (bring.Move r) at = calm_cond (course.at_limit r.mode s.current_level s.settings) _ _ refl (step_calm _ r.mode s.current_level at)
+command_calm s (bring.Move r) at = calm_cond (becomes.at_limit r.mode s.current_level s.settings) _ _ refl (step_calm _ r.mode s.current_level at)
 command_calm s bring.On at = refl
 command_calm s bring.Wake at = wake_calm s.task s at
 
-on_calm : (l before : Level) (v : ℕ) (s : LevelControlState) (at : Micros) → waits_in (course_letter (course.on_towards l before v s at)) ≡ []
+on_calm : (l before : Level) (v : ℕ) (s : LevelControlState) (at : Micros) → waits_in (task_letter (becomes.on_towards l before v s at)) ≡ []
 on_calm (Some level) before v s at = towards_calm (Some v) _ _ true false false at
 on_calm None (Some level) v s at = towards_calm (Some v) _ _ true false false at
 on_calm None None v s at = refl
 
 module _ (s : LevelControlState) (at : Micros) where
   fade_waits : (f : Fade) (v : ℕ) (b : Bool) (p : Phase) → f.phase ≡ p
-      → CourseWaits (at_task s (task.Fade f)) (kind.Answer (device.Level v)) (cond b course.AtRest (course.fade_on f p at))
-  fade_waits f v true p e = calm course.AtRest refl
+      → TaskAfterWaits (at_task s (task.Fade f)) (kind.Answer (device.Level v)) (cond b becomes.AtRest (becomes.fade_on f p at))
+  fade_waits f v true p e = calm becomes.AtRest refl
   fade_waits f v false (Asked since) e = by (leb (at.0 - since.0) (f.period.0 * 1000))
     where
       u : ℕ
-      u = course.until since (f.period.0 * 1000)
+      u = becomes.until since (f.period.0 * 1000)
 
       by : (w : Bool)
-          → CourseWaits (at_task s (task.Fade f)) (kind.Answer (device.Level v))
-          (cond w (course.Waits u (task.Fade (course.fade_at f (f.remaining.0 - f.period.0) f.counter (Waiting (micros u)))))
-          (course.fade_asks f (f.remaining.0 - f.period.0) at))
+          → TaskAfterWaits (at_task s (task.Fade f)) (kind.Answer (device.Level v))
+          (cond w (becomes.Waits u (task.Fade (becomes.fade_at f (f.remaining.0 - f.period.0) f.counter (Waiting (micros u)))))
+          (becomes.fade_asks f (f.remaining.0 - f.period.0) at))
       by true = waiting v since u _ refl e (λ h. omega arith) refl
-      by false = calm (course.fade_asks f (f.remaining.0 - f.period.0) at) refl
-  fade_waits f v false (Waiting until) e = calm course.AsItWas refl
+      by false = calm (becomes.fade_asks f (f.remaining.0 - f.period.0) at) refl
+  fade_waits f v false (Waiting until) e = calm becomes.AsItWas refl
 
   move_waits : (m : Move) (v : ℕ) (b : Bool) (p : Phase) → m.phase ≡ p
-      → CourseWaits (at_task s (task.Move m)) (kind.Answer (device.Level v)) (cond b course.AtRest (course.move_on m p (Some v) at))
-  move_waits m v true p e = calm course.AtRest refl
-  move_waits m v false (Asked since) e = by (leb (at.0 - since.0) m.course.period.0)
+      → TaskAfterWaits (at_task s (task.Move m)) (kind.Answer (device.Level v)) (cond b becomes.AtRest (becomes.move_on m p (Some v) at))
+  move_waits m v true p e = calm becomes.AtRest refl
+  move_waits m v false (Asked since) e = by (leb (at.0 - since.0) m.motion.period.0)
     where
       u : ℕ
-      u = course.until since m.course.period.0
+      u = becomes.until since m.motion.period.0
 
       by : (w : Bool)
-          → CourseWaits (at_task s (task.Move m)) (kind.Answer (device.Level v))
-          (cond w (course.Waits u (task.Move (record { course = m.course; asked = m.asked; phase = Waiting (micros u) })))
-          (course.step m.course m.course.mode (Some v) at))
+          → TaskAfterWaits (at_task s (task.Move m)) (kind.Answer (device.Level v))
+          (cond w (becomes.Waits u (task.Move (record { motion = m.motion; asked = m.asked; phase = Waiting (micros u) })))
+          (becomes.step m.motion m.motion.mode (Some v) at))
       by true = waiting v since u _ refl e (λ h. omega arith) refl
-      by false = calm _ (step_calm m.course m.course.mode (Some v) at)
-  move_waits m v false (Waiting until) e = calm course.AsItWas refl
+      by false = calm _ (step_calm m.motion m.motion.mode (Some v) at)
+  move_waits m v false (Waiting until) e = calm becomes.AsItWas refl
 
-  answer_waits : (x : Task) (a : DeviceAnswer) → CourseWaits (at_task s x) (kind.Answer a) (course.answer_course x (at_task s x) a at)
-  answer_waits task.Rest a = calm course.AsItWas refl
-  answer_waits task.StartUp a = calm course.AtRest refl
+  answer_waits : (x : Task) (a : DeviceAnswer) → TaskAfterWaits (at_task s x) (kind.Answer a) (becomes.task_after_answer x (at_task s x) a at)
+  answer_waits task.Rest a = calm becomes.AsItWas refl
+  answer_waits task.StartUp a = calm becomes.AtRest refl
   answer_waits (task.Fade f) (device.Level v) = fade_waits f v (eqb f.counter f.target) f.phase refl
-  answer_waits (task.Fade f) device.Missing = calm (course.Fails 15) refl
-  answer_waits (task.Fade f) device.Failed = calm (course.Fails 15) refl
+  answer_waits (task.Fade f) device.Missing = calm (becomes.Fails 15) refl
+  answer_waits (task.Fade f) device.Failed = calm (becomes.Fails 15) refl
   answer_waits (task.Move m) (device.Level v) = move_waits m v (is_end m.asked s.settings) m.phase refl
-  answer_waits (task.Move m) device.Missing = calm (course.Fails 15) refl
-  answer_waits (task.Move m) device.Failed = calm (course.Fails 15) refl
+  answer_waits (task.Move m) device.Missing = calm (becomes.Fails 15) refl
+  answer_waits (task.Move m) device.Failed = calm (becomes.Fails 15) refl
   answer_waits (task.OnReaction r) (device.Level v) = calm _ (on_calm s.attributes.on_level r.before v (at_task s (task.OnReaction r)) at)
-  answer_waits (task.OnReaction r) device.Missing = calm (course.Fails 15) refl
-  answer_waits (task.OnReaction r) device.Failed = calm (course.Fails 15) refl
+  answer_waits (task.OnReaction r) device.Missing = calm (becomes.Fails 15) refl
+  answer_waits (task.OnReaction r) device.Failed = calm (becomes.Fails 15) refl
 
-  course_waits : (k : EventKind) → CourseWaits s k (course.course s (brings s k) at)
-  unfolding course.course
-  course_waits kind.StartUp = calm _ (command_calm s bring.StartUp at)
-  course_waits (kind.Command (command.MoveToLevel r)) = calm _ (towards_calm s.current_level (target s r.level) (given_or r.transition_time 0) r.options.with_on_off false false at)
-  course_waits (kind.Command (command.Move r)) = calm _ (command_calm s (bring.Move r) at)
-  course_waits (kind.Command (command.Step r)) = calm _ (command_calm s (step_target s.current_level s r) at)
-  course_waits (kind.Command (command.Stop r)) = calm course.AtRest refl
-  course_waits (kind.Answer a) = answer_waits s.task a
-  course_waits kind.Wake = calm _ (command_calm s bring.Wake at)
-  course_waits (kind.Command (command.OnOffChanged value)) = calm _ (command_calm s (turned value s) at)
-  course_waits (kind.Command (command.Scene r)) = calm _ (command_calm s (scene_target r.level s r.transition_time.0) at)
-  course_waits (kind.Command (command.DeviceUpdate level)) = calm course.AtRest refl
-  course_waits (kind.Command command.DeviceStop) = calm course.AtRest refl
-  course_waits (kind.Command (command.SetOnLevel level)) = calm course.AsItWas refl
-  course_waits (kind.Command (command.SetDefaultMoveRate rate)) = calm course.AsItWas refl
-  course_waits (kind.Command (command.SetStartUpCurrentLevel level)) = calm course.AsItWas refl
-  course_waits (kind.Command command.FactoryReset) = calm course.AtRest refl
+  task_after_waits : (k : EventKind) → TaskAfterWaits s k (becomes.task_after s (brings s k) at)
+  unfolding becomes.task_after
+  task_after_waits kind.StartUp = calm _ (command_calm s bring.StartUp at)
+  task_after_waits (kind.Command (command.MoveToLevel r)) = calm _ (towards_calm s.current_level (target s r.level) (given_or r.transition_time 0) r.options.with_on_off false false at)
+  task_after_waits (kind.Command (command.Move r)) = calm _ (command_calm s (bring.Move r) at)
+  task_after_waits (kind.Command (command.Step r)) = calm _ (command_calm s (step_target s.current_level s r) at)
+  task_after_waits (kind.Command (command.Stop r)) = calm becomes.AtRest refl
+  task_after_waits (kind.Answer a) = answer_waits s.task a
+  task_after_waits kind.Wake = calm _ (command_calm s bring.Wake at)
+  task_after_waits (kind.Command (command.OnOffChanged value)) = calm _ (command_calm s (turned value s) at)
+  task_after_waits (kind.Command (command.Scene r)) = calm _ (command_calm s (scene_target r.level s r.transition_time.0) at)
+  task_after_waits (kind.Command (command.DeviceUpdate level)) = calm becomes.AtRest refl
+  task_after_waits (kind.Command command.DeviceStop) = calm becomes.AtRest refl
+  task_after_waits (kind.Command (command.SetOnLevel level)) = calm becomes.AsItWas refl
+  task_after_waits (kind.Command (command.SetDefaultMoveRate rate)) = calm becomes.AsItWas refl
+  task_after_waits (kind.Command (command.SetStartUpCurrentLevel level)) = calm becomes.AsItWas refl
+  task_after_waits (kind.Command command.FactoryReset) = calm becomes.AtRest refl
 
 pub gives_waited : (s : LevelControlState) (k : EventKind) (at : Micros) (on : Bool) → Waited s k (gives s (brings s k) at on)
 unfolding next_state
-gives_waited s k at on = by (course.course s (brings s k) at) refl (course_waits s at k)
+gives_waited s k at on = by (becomes.task_after s (brings s k) at) refl (task_after_waits s at k)
   where
-    by : (c : Course) → course.course s (brings s k) at ≡ c → CourseWaits s k c → Waited s k (gives s (brings s k) at on)
-    by c e (calm d h) = no_wait (letters_waits s (brings s k) at on ∙ ap (λ (x : Course). waits_in (course_letter x)) e ∙ h)
+    by : (c : TaskAfter) → becomes.task_after s (brings s k) at ≡ c → TaskAfterWaits s k c → Waited s k (gives s (brings s k) at on)
+    by c e (calm d h) = no_wait (letters_waits s (brings s k) at on ∙ ap (λ (x : TaskAfter). waits_in (task_letter x)) e ∙ h)
     by c e (waiting v since u t answers asked order waits-so) =
         waits v since (micros u) answers asked order
-        (subst (λ (x : Course). InPhase (task_on x s.task) (Waiting (micros u))) (sym e) waits-so)
-        (letters_waits s (brings s k) at on ∙ ap (λ (x : Course). waits_in (course_letter x)) e)
+        (subst (λ (x : TaskAfter). InPhase (task_on x s.task) (Waiting (micros u))) (sym e) waits-so)
+        (letters_waits s (brings s k) at on ∙ ap (λ (x : TaskAfter). waits_in (task_letter x)) e)
 
 -- the W that stands in a list is the one that is found in it
 

@@ -13,7 +13,7 @@ use Rattle.units.specs.Units.{micros, millis_to_micros, at_most, later, elapsed}
 use Rattle.units.specs.declared.Micros.{Micros}
 use Rattle.transitions.specs.Events.{event}
 use Rattle.transitions.specs.Fade.{wait_or_ask}
-use Rattle.transitions.specs.Tasks.{task_open, phase_open, fade_last, fade_from, fade_asking, fade_waiting, level_to_restore}
+use Rattle.transitions.specs.Tasks.{task_open, phase_open, fade_last, fade_from, fade_asking, fade_waiting, level_to_put_back}
 use Rattle.transitions.specs.declared.events.DeviceAnswer.TheVariants as device
 use Rattle.transitions.specs.declared.events.Event.{Event}
 use Rattle.transitions.specs.declared.events.EventKind.TheVariants as kind
@@ -26,9 +26,9 @@ use Rattle.transitions.specs.Types.{Level}
 use Rattle.level_control.specs.State.{accept}
 use Rattle.level_control.specs.Answer.{Outcome}
 use Rattle.level_control.specs.Reports.{write_remaining_time, set_level}
-use Rattle.level_control.specs.Fades.{fade_stored, fade_told, restored, fade_ended_by, fade_ended, fade_then, fade_goes_on, move_to_level_transition, fade_answered, fade_woken}
-use Rattle.level_control.specs.Causes.{latest}
-use Rattle.level_control.specs.Events.{fade_answered_in, answered_in, woken_in}
+use Rattle.level_control.specs.Fades.{fade_stored, fade_told, ended_put_back, fade_ended_by, fade_ended, fade_then, fade_goes_on, move_to_level_transition, fade_answered, fade_woken}
+use Rattle.level_control.specs.Judge.{latest}
+use Rattle.level_control.specs.Handle.{fade_answered_in, answered_in, woken_in}
 use Rattle.level_control.specs.Run.{Run, accepted, is_onward, started, next as next_run, play}
 use Rattle.level_control.specs.Starts.{distance}
 use Rattle.level_theorems.specs.Replies.{Reply, wake_in, wake_of, replies, answers_from, in_time, delays}
@@ -57,9 +57,9 @@ Timed (task.OnReaction r) last = Unit {0}
 abbrev pub Comes : Micros → LevelControlState → Type 0
 Comes at s = (s.last_accepted ≡ at) × Timed s.task at.0
 
-ended_comes : (t : Told) (after : Option ℕ) (at : Micros) → t.state.last_accepted ≡ at → Comes at (fade_ended t after).state
-unfolding fade_ended restored
-ended_comes t after at q = by (level_to_restore after t.state.attributes.on_level)
+ended_comes : (t : Told) (put_back : Option ℕ) (at : Micros) → t.state.last_accepted ≡ at → Comes at (fade_ended t put_back).state
+unfolding fade_ended ended_put_back
+ended_comes t put_back at q = by (level_to_put_back put_back t.state.attributes.on_level)
   where
     by : (l : Level) → Comes at (fade_ended_by l t).state
     by (Some before) = (q, tt)
@@ -85,8 +85,8 @@ answer_comes s f since at on v le = by (fade_last f)
     told : Told
     told = fade_told (accept s at) f at on v
 
-    by : (b : Bool) → Comes at (cond b (fade_ended told f.after) (fade_goes_on told f since at)).state
-    by true = ended_comes told f.after at (told_last (accept s at) f at on v)
+    by : (b : Bool) → Comes at (cond b (fade_ended told f.put_back) (fade_goes_on told f since at)).state
+    by true = ended_comes told f.put_back at (told_last (accept s at) f at on v)
     by false = goes_on_comes told f since at le (told_last (accept s at) f at on v)
 
 wake_comes : (s : LevelControlState) (f : Fade) (at : Micros) → Comes at (fade_woken (accept s at) f at).state

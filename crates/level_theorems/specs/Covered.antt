@@ -33,7 +33,7 @@ pub record SameFade (f g : Fade) : Type 0 where
   pub target : g.target ≡ f.target
   pub time : g.transition_time ≡ f.transition_time
   pub period : g.period ≡ f.period
-  pub after : g.after ≡ f.after
+  pub put_back : g.put_back ≡ f.put_back
 
 -- an accepted event in a state, and the state after it
 pub data Covered (s : LevelControlState) (e : Event) (s' : LevelControlState) : Type 0 where

@@ -3,7 +3,7 @@ use Rattle.std.specs.Prelude.{ℕ, ◌≤◌, Bool, true, false, ◌≡◌, ◌�
 use Rattle.units.specs.Units.{micros}
 use Rattle.units.specs.declared.Micros.{Micros}
 use Rattle.transitions.specs.Causes.{Row, rows, event_tests}
-use Rattle.transitions.specs.Events.{action, act}
+use Rattle.transitions.specs.Actions.{action, act}
 use Rattle.transitions.specs.Tasks.{fade_last}
 use Rattle.transitions.specs.Types.{is_missing}
 use Rattle.transitions.specs.Search.{NoneOf, First}
@@ -26,8 +26,8 @@ use Rattle.transitions.specs.declared.settings.Settings.{Settings}
 use Rattle.transitions.specs.Types.{Level}
 use Rattle.transitions.specs.Types.{Rate}
 use Rattle.level_control.specs.Answer.{packed, answer_of, number_shown}
-use Rattle.level_control.specs.Causes.{turn_tests, command_tests_of}
-use Rattle.level_control.specs.Events.{number_of, event_of}
+use Rattle.level_control.specs.Judge.{turn_tests, command_tests_of}
+use Rattle.level_control.specs.Handle.{number_of, event_of}
 use Rattle.level_theorems.specs.Orders.{kinds_of, OneOf, orders}
 use Rattle.level_control.specs.State.{new_state}
 use Rattle.level_control.specs.declared.state.LevelControlState.{LevelControlState}
@@ -50,8 +50,8 @@ pub data LevelFrom (s : LevelControlState) (k : EventKind) : Level → Type 0 wh
   missing : k ≡ kind.Answer device.Missing → LevelFrom s k None
   -- the device updated it
   updated : {v : ℕ} → k ≡ kind.Command (command.DeviceUpdate v) → LevelFrom s k (Some v)
-  -- an off fade has had its last answer, no on level is known, and the level before that fade is stored back
-  restored : {f : Fade} {v before : ℕ} → s.task ≡ task.Fade f → fade_last f ≡ true → f.after ≡ Some before
+  -- an off fade has had its last answer, no on level is known, and the level before that fade is put back
+  put_back : {f : Fade} {v before : ℕ} → s.task ≡ task.Fade f → fade_last f ≡ true → f.put_back ≡ Some before
       → is_missing s.attributes.on_level ≡ true → k ≡ kind.Answer (device.Level v) → LevelFrom s k (Some before)
 
 -- a state's attributes but for those that a setter sets
@@ -183,7 +183,7 @@ pub record EveryEvent : Type 0 where
   -- Wherever W u stands among the actions, the event answers a request, u is not before that request, and the task waits until u.
   pub wait_after_request : (s : LevelControlState) (e : Event) (u : ℕ) (earlier others : List Action)
       → (event_of s e).actions ≡ earlier ++ (action W u ∷ others) → WaitAfter s e u
-  -- The stored level is the one before the event, or what the device answered, or what a device update gave, or what an off fade restores at its end.
+  -- The stored level is the one before the event, or what the device answered, or what a device update gave, or what an off fade puts back at its end.
   pub level_comes_from : (s : LevelControlState) (e : Event) → LevelFrom s e.kind (event_of s e).state.current_level
   -- What the settings configure never changes; the attributes are as before the event, but for the one that an accepted setter sets, or, after a reset, as
   -- configured.

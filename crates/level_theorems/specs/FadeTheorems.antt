@@ -12,8 +12,8 @@ use Rattle.transitions.specs.declared.tasks.OnReaction.{OnReaction}
 use Rattle.transitions.specs.declared.tasks.Phase.TheVariants.{Waiting}
 use Rattle.transitions.specs.declared.tasks.Task.TheVariants as task
 use Rattle.level_control.specs.Answer.{Outcome}
-use Rattle.level_control.specs.Causes.{latest}
-use Rattle.level_control.specs.Events.{event_of}
+use Rattle.level_control.specs.Judge.{latest}
+use Rattle.level_control.specs.Handle.{event_of}
 use Rattle.level_control.specs.Path.{path}
 use Rattle.level_control.specs.Reached.{ReachedFrom}
 use Rattle.level_control.specs.Run.{Run, accepted, started, play, only_onward, all_refused}

@@ -10,7 +10,7 @@ use Rattle.transitions.specs.declared.settings.Settings.{Settings}
 use Rattle.transitions.specs.declared.types.Mode.TheVariants.{Up}
 use Rattle.level_control.specs.State.{new_state}
 use Rattle.level_control.specs.Answer.{Outcome}
-use Rattle.level_control.specs.Events.{event_of}
+use Rattle.level_control.specs.Handle.{event_of}
 use Rattle.level_control.specs.Run.{Request, started, play, only_onward, state_after}
 use Rattle.level_control.specs.EveryFade.{Starts, Shown}
 use Rattle.level_theorems.specs.Replies.{Reply, answers_from, Ends}

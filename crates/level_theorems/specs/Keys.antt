@@ -7,8 +7,9 @@ use Rattle.transitions.specs.CurrentLevel.{second, current_level_due}
 use Rattle.transitions.specs.Causes.{refusal_number}
 use Rattle.transitions.specs.Commands.{step_level, step_time}
 use Rattle.transitions.specs.Fade.{fade_period}
-use Rattle.transitions.specs.Moves.{move_period}
-use Rattle.transitions.specs.Events.{event, action, act}
+use Rattle.transitions.specs.MovePeriod.{move_period}
+use Rattle.transitions.specs.Events.{event}
+use Rattle.transitions.specs.Actions.{action, act}
 use Rattle.transitions.specs.declared.actions.Action.{Action}
 use Rattle.transitions.specs.declared.actions.ActionKind.TheVariants.{D, P, S, L, E}
 use Rattle.transitions.specs.declared.events.DeviceAnswer.TheVariants as device
@@ -19,7 +20,7 @@ use Rattle.transitions.specs.declared.settings.Settings.{Settings}
 use Rattle.transitions.specs.Types.{Level}
 use Rattle.transitions.specs.declared.types.Mode.TheVariants.{Up}
 use Rattle.level_control.specs.State.{new_state}
-use Rattle.level_control.specs.Events.{event_of}
+use Rattle.level_control.specs.Handle.{event_of}
 use Rattle.level_control.specs.Answer.{Outcome}
 use Rattle.level_control.specs.EveryFade.{Starts}
 use Rattle.level_control.specs.Run.{Nothing, asks, started, play, only_onward}
@@ -194,8 +195,8 @@ next_levels zero now level = []
 next_levels (suc n) now level = answers (now + 1000000) (level + 1) ∷ next_levels n (now + 1000000) (level + 1)
 
 -- on, with both levels missing
-abbrev pub turned_on : Outcome
-turned_on = event_of (new_state (plain None)) (at 0 (kind.Command (command.OnOffChanged true)))
+abbrev pub on_with_no_level : Outcome
+on_with_no_level = event_of (new_state (plain None)) (at 0 (kind.Command (command.OnOffChanged true)))
 
 -- The twelve questions. The table has these rows under each number, and no others; and each key, as the rules have it.
 pub record Keys : Type 0 where
@@ -245,7 +246,7 @@ pub record Keys : Type 0 where
   -- 12. On, with the level and the on level missing? D and MIN; after the answer P S L E15, in every state and whatever level is answered.
   pub rows_12 : rows_of 12 table
       ≡ about 12 (answers 0 1 ∷ []) (λ a. Actions (plain None) (at 0 (kind.Command (command.OnOffChanged true)) ∷ a ∷ []))
-      (λ a. Given (turned_on.actions ∷ (event_of turned_on.state a).actions ∷ []))
+      (λ a. Given (on_with_no_level.actions ∷ (event_of on_with_no_level.state a).actions ∷ []))
   pub key_12 : (s : LevelControlState) (e a : Event) (v : ℕ) → s.current_level ≡ None → s.attributes.on_level ≡ None
       → e.kind ≡ kind.Command (command.OnOffChanged true) → (event_of s e).number ≡ 0
       → a.kind ≡ kind.Answer (device.Level v) → (event_of (event_of s e).state a).number ≡ 0

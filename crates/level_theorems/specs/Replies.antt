@@ -9,7 +9,7 @@ use Rattle.transitions.specs.declared.tasks.Phase.{Phase}
 use Rattle.transitions.specs.declared.tasks.Phase.TheVariants.{Asked, Waiting}
 use Rattle.transitions.specs.declared.tasks.Task.{Task}
 use Rattle.transitions.specs.declared.tasks.Task.TheVariants as task
-use Rattle.level_control.specs.Causes.{latest}
+use Rattle.level_control.specs.Judge.{latest}
 use Rattle.level_control.specs.Run.{Run, Nothing, next, play, only_onward}
 use Rattle.level_control.specs.Starts.{distance}
 use Rattle.level_control.specs.declared.state.LevelControlState.{LevelControlState}

@@ -13,14 +13,14 @@ use Rattle.transitions.specs.declared.tasks.Task.TheVariants as task
 use Rattle.transitions.specs.Types.{Level, is_missing}
 use Rattle.level_control.specs.Answer.{Outcome}
 use Rattle.level_control.specs.EveryFade.{Starts, directly, after_on}
-use Rattle.level_control.specs.Events.{event_of}
+use Rattle.level_control.specs.Handle.{event_of}
 use Rattle.level_control.specs.Reached.{ReachedFrom}
 use Rattle.level_control.specs.Run.{accepted, state_after}
 use Rattle.level_control.specs.Starts.{distance}
 use Rattle.level_control.specs.State.{new_state}
 use Rattle.level_control.specs.declared.state.LevelControlState.{LevelControlState}
-use Rattle.event_theorems.specs.ByField.{stopped}
-use Rattle.event_theorems.specs.Course.{at_limit}
+use Rattle.event_theorems.specs.ByField.{options_stop}
+use Rattle.event_theorems.specs.TaskAfter.{at_limit}
 use Rattle.level_theorems.specs.Covered.{SameFade}
 
 -- The start of a fade: where it stands.
@@ -62,7 +62,7 @@ asks_nothing s (kind.Command command.FactoryReset) = false
 
 -- such an event, or one that the options stop
 abbrev pub leaves_task : LevelControlState → Event → Bool
-leaves_task s e = stopped s e || asks_nothing s e.kind
+leaves_task s e = options_stop s e || asks_nothing s e.kind
 
 -- of the events, refused ones included, none that is accepted is such
 abbrev pub none_leaves : LevelControlState → List Event → Bool
@@ -96,7 +96,7 @@ pub record FadesFrom (c : ℕ) (f : Fade) : Type 0 where
   pub between : distance f.target f.counter + distance f.counter c ≡ distance f.target c
   pub left : 1 ≤ distance f.counter c
   pub more : (until : Micros) → f.phase ≡ Waiting until → f.counter ≡ f.target → ⊥
-  pub back : (before : ℕ) → f.after ≡ Some before → before ≡ c
+  pub back : (before : ℕ) → f.put_back ≡ Some before → before ≡ c
 
 -- after these events in a state, f runs: a start of it, from c to t in T tenths, stands among them, and those since left it running
 pub record FadeRuns (first : LevelControlState) (es : List Event) (f : Fade) : Type 0 where

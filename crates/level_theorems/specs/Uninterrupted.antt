@@ -50,13 +50,13 @@ all_levels r (e ∷ es) = (not (accepted r.state e) || loses_no_level e.kind) &&
 
 -- the request or the wait that a task keeps
 
-abbrev pub open_in : Phase → Pending
-open_in (Asked since) = Request
-open_in (Waiting until) = Wait
+abbrev pub phase_shows : Phase → Pending
+phase_shows (Asked since) = Request
+phase_shows (Waiting until) = Wait
 
 abbrev pub open_of : Task → Pending
 open_of task.Rest = Nothing
 open_of task.StartUp = Request
-open_of (task.Fade f) = open_in f.phase
-open_of (task.Move m) = open_in m.phase
+open_of (task.Fade f) = phase_shows f.phase
+open_of (task.Move m) = phase_shows m.phase
 open_of (task.OnReaction r) = Request

@@ -28,9 +28,9 @@ use Rattle.transitions.specs.Types.{Time}
 use Rattle.transitions.proofs.MatterLaws.{matter_agrees}
 use Rattle.level_control.specs.State.{accept}
 use Rattle.level_control.specs.Answer.{Outcome, done}
-use Rattle.level_control.specs.Causes.{turn_tests}
-use Rattle.level_control.specs.Events.{number_of, event_of}
-use Rattle.level_control.specs.Reports.{coupled_by}
+use Rattle.level_control.specs.Judge.{turn_tests}
+use Rattle.level_control.specs.Handle.{number_of, event_of}
+use Rattle.level_control.specs.Coupling.{coupled_by}
 use Rattle.level_control.specs.Run.{Nothing, Request, Wait}
 use Rattle.level_control.specs.Starts as starts
 use Rattle.level_control.specs.Starts.{target, given_or, step_in}
@@ -71,7 +71,7 @@ level_stays s k _ c claim.kept = refl
 level_stays s k _ c (claim.answered e) = absurd (true≢false (sym c ∙ ap is_command e))
 level_stays s k _ c (claim.missing e) = absurd (true≢false (sym c ∙ ap is_command e))
 level_stays s k _ c (claim.updated e) = absurd (true≢false (sym c ∙ ap is_command e))
-level_stays s k _ c (claim.restored runs last after none e) = absurd (true≢false (sym c ∙ ap is_command e))
+level_stays s k _ c (claim.put_back runs last after none e) = absurd (true≢false (sym c ∙ ap is_command e))
 
 pub command_keeps_level : (s : LevelControlState) (e : Event) → is_command e.kind ≡ true → (event_of s e).state.current_level ≡ s.current_level
 command_keeps_level s e c = level_stays s e.kind _ c (every_event.level_comes_from s e)

@@ -13,8 +13,9 @@ use Rattle.units.specs.Numbers.{held_to}
 use Rattle.units.specs.Units.{millis}
 use Rattle.units.specs.declared.Micros.{Micros}
 use Rattle.transitions.specs.Commands.{is_invalid}
-use Rattle.transitions.specs.Events.{event, act, act_coupled}
-use Rattle.transitions.specs.Tasks.{task_open, task_due, phase_open, fade_last, level_to_restore, next_move, at_limit}
+use Rattle.transitions.specs.Events.{event}
+use Rattle.transitions.specs.Actions.{act, act_coupled}
+use Rattle.transitions.specs.Tasks.{task_open, task_due, phase_open, fade_last, level_to_put_back, next_move, at_limit}
 use Rattle.transitions.specs.declared.actions.ActionKind.TheVariants.{D, R}
 use Rattle.transitions.specs.declared.events.DeviceAnswer.TheVariants as device
 use Rattle.transitions.specs.declared.events.Event.{Event}
@@ -23,7 +24,7 @@ use Rattle.transitions.specs.declared.events.EventKind.TheVariants as kind
 use Rattle.transitions.specs.declared.events.MoveRequest.{MoveRequest}
 use Rattle.transitions.specs.declared.options.CommandOptions.{CommandOptions}
 use Rattle.transitions.specs.declared.tasks.Fade.{Fade}
-use Rattle.transitions.specs.declared.tasks.MoveCourse.{MoveCourse}
+use Rattle.transitions.specs.declared.tasks.Motion.{Motion}
 use Rattle.transitions.specs.declared.tasks.MoveStep.{MoveStep}
 use Rattle.transitions.specs.declared.tasks.MoveStep.TheVariants as next
 use Rattle.transitions.specs.declared.tasks.Phase.{Phase}
@@ -37,18 +38,19 @@ use Rattle.transitions.specs.declared.types.OptionsBitmap.{OptionsBitmap}
 use Rattle.level_control.specs.State.{accept}
 use Rattle.transitions.specs.Actions.{reports_of}
 use Rattle.level_control.specs.Answer.{Outcome, done}
-use Rattle.level_control.specs.Causes.{turn_tests, move_tests, stop_tests, command_tests_of}
-use Rattle.level_control.specs.Events.{fade_answered_in, answered_in, answered, run, number_of, event_of}
-use Rattle.level_control.specs.Fades.{restored, fade_ended_by, fade_ended, fade_goes_on, fade_stored, fade_told, move_to_level_transition, fade_answered}
+use Rattle.level_control.specs.Judge.{turn_tests, move_tests, stop_tests, command_tests_of}
+use Rattle.level_control.specs.Handle.{fade_answered_in, answered_in, answered, run, number_of, event_of}
+use Rattle.level_control.specs.Fades.{ended_put_back, fade_ended_by, fade_ended, fade_goes_on, fade_stored, fade_told, move_to_level_transition, fade_answered}
 use Rattle.level_control.specs.Moves.{leaves_min, rate_by, move_by, move_goes_on, move_at, begin_move}
-use Rattle.level_control.specs.Reports.{continues, set_level, write_remaining_time}
-use Rattle.level_control.specs.Rest.{start_up_or, start_up_level, start_up_at, started_up}
+use Rattle.level_control.specs.Judge.{continues}
+use Rattle.level_control.specs.Reports.{set_level, write_remaining_time}
+use Rattle.level_control.specs.StartUp.{start_up_or, start_up_level, start_up_at, started_up}
 use Rattle.level_control.specs.Run.{Nothing, accepted, asks, all_refused, state_after}
 use Rattle.level_control.specs.Targets.{quiet, stopped}
 use Rattle.level_control.specs.Reports.{Told}
 use Rattle.level_control.specs.declared.state.LevelControlState.{LevelControlState}
 use Rattle.level_control.proofs.EveryFade.{accepted_zero}
-use Rattle.level_control.proofs.EventLaws.{event_refused, event_runs, event_stopped, command_passes}
+use Rattle.level_control.proofs.EventLaws.{event_refused, event_runs, event_options_stop, command_passes}
 use Rattle.level_control.proofs.SeenLaws.{Silent, silent_if, asks_append, asks_after, silent_coupled, silent_reports}
 use Rattle.level_control.proofs.StartLaws.{continues_is, refused_stays}
 use Rattle.matter.specs.Matter.{NotExecuted, move_to, after_off, start_up}
@@ -77,7 +79,7 @@ pub stopped_as : (s : LevelControlState) (e : Event) (k : EventKind) → e.kind 
     → (command_tests_of s e.moment.on_off k).stopped_by_options ≡ true → event_of s e ≡ done (accept s e.moment.at) []
 stopped_as s e k q ok stopped =
     ap (λ (x : EventKind). event_of s (event e.moment.at e.moment.on_off x)) q
-    ∙ event_stopped s (event e.moment.at e.moment.on_off k) (zero_as s e k q ok) stopped
+    ∙ event_options_stop s (event e.moment.at e.moment.on_off k) (zero_as s e k q ok) stopped
 
 -- what the document's options say, the machine's say
 pub options_say : (s : LevelControlState) (e : Event) (with_on_off : Bool) (mask override : OptionsBitmap) (b : Bool) → passes s e with_on_off mask override ≡ b
@@ -86,11 +88,11 @@ options_say s e with_on_off mask override b p = ap not (continues_is s with_on_o
 
 -- The end of off.
 
-off_level : (s : LevelControlState) (f : Fade) (since at : Micros) (on : Bool) (v stored : ℕ) → f.after ≡ Some stored → fade_last f ≡ true
+off_level : (s : LevelControlState) (f : Fade) (since at : Micros) (on : Bool) (v stored : ℕ) → f.put_back ≡ Some stored → fade_last f ≡ true
     → (fade_answered (accept s at) f since at on (device.Level v)).state.current_level ≡ Some (after_off s.attributes.on_level stored v)
-unfolding fade_answered move_to_level_transition fade_ended fade_told fade_stored set_level write_remaining_time restored level_to_restore
+unfolding fade_answered move_to_level_transition fade_ended fade_told fade_stored set_level write_remaining_time ended_put_back level_to_put_back
 off_level s f since at on v stored after last =
-    ap (λ (b : Bool). (cond b (fade_ended told f.after) others).state.current_level) last
+    ap (λ (b : Bool). (cond b (fade_ended told f.put_back) others).state.current_level) last
     ∙ ap (λ (a : Option ℕ). (fade_ended told a).state.current_level) after
     ∙ ended s.attributes.on_level
   where
@@ -100,12 +102,12 @@ off_level s f since at on v stored after last =
     others : Outcome
     others = fade_goes_on told f since at
 
-    ended : (l : Level) → (fade_ended_by (level_to_restore (Some stored) l) told).state.current_level ≡ Some (after_off l stored v)
+    ended : (l : Level) → (fade_ended_by (level_to_put_back (Some stored) l) told).state.current_level ≡ Some (after_off l stored v)
     ended (Some x) = refl
     ended None = refl
 
 pub off_ends : (s : LevelControlState) (e : Event) (f : Fade) (stored v : ℕ)
-    → s.task ≡ task.Fade f → f.after ≡ Some stored → fade_last f ≡ true → e.kind ≡ kind.Answer (device.Level v) → accepted s e ≡ true
+    → s.task ≡ task.Fade f → f.put_back ≡ Some stored → fade_last f ≡ true → e.kind ≡ kind.Answer (device.Level v) → accepted s e ≡ true
     → (event_of s e).state.current_level ≡ Some (after_off s.attributes.on_level stored v)
 unfolding run answered command_tests_of number_of turn_tests
 off_ends s e f stored v runs after last k ok =
@@ -209,7 +211,7 @@ asked next.Lost = []
 asked next.Ends = []
 asked (next.Asks level) = level ∷ []
 
-move_by_asks : (x : MoveStep) (t : Told) (m : MoveCourse) (at : Micros) (on : Bool) → asks (move_by x t m at on).actions ≡ asked x
+move_by_asks : (x : MoveStep) (t : Told) (m : Motion) (at : Micros) (on : Bool) → asks (move_by x t m at on).actions ≡ asked x
 move_by_asks next.Lost t m at on = asks_after t.reports _
 move_by_asks next.Ends t m at on = (silent_reports t.reports).no_ask
 move_by_asks (next.Asks level) t m at on =

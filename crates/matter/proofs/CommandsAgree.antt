@@ -24,10 +24,10 @@ use Rattle.transitions.specs.Types.{Level}
 use Rattle.transitions.specs.Types.{Time}
 use Rattle.level_control.specs.State.{accept}
 use Rattle.level_control.specs.Answer.{Outcome}
-use Rattle.level_control.specs.Causes.{move_to_level_tests, overflows_from, step_overflows, step_tests, command_tests_of}
-use Rattle.level_control.specs.Events.{run, number_of, event_of}
+use Rattle.level_control.specs.Judge.{move_to_level_tests, overflows_from, step_overflows, step_tests, command_tests_of}
+use Rattle.level_control.specs.Handle.{run, number_of, event_of}
 use Rattle.level_control.specs.Reactions.{off_time, turned_off, switched}
-use Rattle.level_control.specs.Reports.{continues}
+use Rattle.level_control.specs.Judge.{continues}
 use Rattle.level_control.specs.Run.{accepted, asks, all_refused, state_after}
 use Rattle.level_control.specs.Starts as starts
 use Rattle.level_control.specs.Starts.{Start, NoFade, Fades, start_from, target, given_or, step_in, on_start_at, on_start}

@@ -14,8 +14,8 @@ use Rattle.units.specs.declared.Micros.{Micros}
 use Rattle.units.specs.declared.Tenths.{Tenths}
 use Rattle.transitions.specs.Commands.{is_invalid}
 use Rattle.transitions.specs.Events.{event}
-use Rattle.transitions.specs.Moves.{move_period}
-use Rattle.transitions.specs.Tasks.{after_fade, level_to_restore, at_limit}
+use Rattle.transitions.specs.MovePeriod.{move_period}
+use Rattle.transitions.specs.Tasks.{kept_to_put_back, level_to_put_back, at_limit}
 use Rattle.transitions.specs.Types.{Level, Time, time_or}
 use Rattle.transitions.specs.declared.causes.Refusal.{Refusal}
 use Rattle.transitions.specs.declared.events.Command.TheVariants as command
@@ -30,12 +30,13 @@ use Rattle.transitions.specs.declared.tasks.FadeRequest.{FadeRequest}
 use Rattle.transitions.specs.declared.types.Mode.{Mode}
 use Rattle.transitions.specs.declared.types.Mode.TheVariants.{Up, Down}
 use Rattle.level_control.specs.Answer.{Outcome, done}
-use Rattle.level_control.specs.Causes.{latest, move_to_level_tests, move_tests, step_tests, step_overflows, overflows_from, scene_tests_at, scene_tests, command_tests_of}
-use Rattle.level_control.specs.Events.{run, number_of, event_of}
+use Rattle.level_control.specs.Judge.{latest, move_to_level_tests, move_tests, step_tests, step_overflows, overflows_from, scene_tests_at, scene_tests, command_tests_of}
+use Rattle.level_control.specs.Handle.{run, number_of, event_of}
 use Rattle.level_control.specs.Moves.{rate_by, move_at, begin_move}
 use Rattle.level_control.specs.Path.{path}
 use Rattle.level_control.specs.Reactions.{off_time, turned_off, switched}
-use Rattle.level_control.specs.Reports.{Told, continues}
+use Rattle.level_control.specs.Reports.{Told}
+use Rattle.level_control.specs.Judge.{continues}
 use Rattle.level_control.specs.Run.{accepted, started}
 use Rattle.level_control.specs.Starts.{target, step_in}
 use Rattle.level_control.specs.State.{accept}
@@ -48,7 +49,7 @@ use Rattle.level_control.proofs.StartLaws.{target_is, given_is, step_is, takes, 
 use Rattle.level_theorems.specs.Replies.{Reply, answers_from, in_time, delays}
 use Rattle.matter.specs.Matter.{Effect, Invalid, NoEffect, Goes, goes, within, or_else, move_to_level, step_to, reduced, step, after_on, off, after_off}
 use Rattle.matter.specs.Agreement.{IsLevel, passes}
-use Rattle.matter.specs.Ends.{OneByOne, limit, way, way_of, level_after, MovesFrom, CommandsEnd}
+use Rattle.matter.specs.Ends.{OneByOne, limit, way, way_of, level_reached, MovesFrom, CommandsEnd}
 use Rattle.matter.proofs.Changes.{within_is, in_range, given_same, reduced_is, step_same, step_inside}
 use Rattle.matter.proofs.CommandRules.{runs_as, passed}
 use Rattle.matter.proofs.EchoInvariant.{path_rises, path_falls, left_at, Short, After, move_follows, go_to_holds}
@@ -81,7 +82,7 @@ lets_pass false false x none from to tenths e other = absurd (other e)
 -- the fade that the machine starts where the document says that the level goes on
 go_to_starts : (o : Outcome) (told : Told) (r : FadeRequest) (at : Micros) (on : Bool) (c from to tenths last : ℕ) → o ≡ go_to told r at on
     → told.state.current_level ≡ Some c → goes c r.target r.transition_time.0 ≡ Goes from to tenths
-    → left_at (level_to_restore (after_fade r.restores c) told.state.attributes.on_level) r.target ≡ last → After (way from to tenths) last [] 0 o
+    → left_at (level_to_put_back (kept_to_put_back r.puts_back c) told.state.attributes.on_level) r.target ≡ last → After (way from to tenths) last [] 0 o
 go_to_starts o told r at on c from to tenths last same level says ends =
     subst (λ (x : Outcome). After (way from to tenths) last [] 0 x) (sym same)
     (go_to_holds (way from to tenths) last told r at on [] 0 c level ends (ap way_of says)
@@ -95,7 +96,7 @@ move_to_level_starts : (s : LevelControlState) (e : Event) (r : MoveToLevelReque
     → move_to_level (passes s e r.options.with_on_off r.options.options_mask r.options.options_override) s.settings.range.min s.settings.range.max c r.level
     r.transition_time s.attributes.on_off_transition_time.0 ≡ Goes from to tenths
     → After (way from to tenths) to [] 0 (event_of s e)
-unfolding run moved_to_level command_tests_of move_to_level_tests level_to_restore time_or
+unfolding run moved_to_level command_tests_of move_to_level_tests level_to_put_back time_or
 move_to_level_starts s e r c T from to tenths k ok level order given says =
     go_to_starts (event_of s e) (quiet (accept s e.moment.at)) request e.moment.at e.moment.on_off c from to tenths to
     (runs_as s e (kind.Command (command.MoveToLevel r)) k ok free) level named (leads_to c request.target request.transition_time.0 from to tenths named).0
@@ -124,7 +125,7 @@ step_starts : (s : LevelControlState) (e : Event) (r : StepRequest) (c from to t
     → step (passes s e r.options.with_on_off r.options.options_mask r.options.options_override) r.mode s.settings.range.min s.settings.range.max c
     r.step_size r.transition_time ≡ Goes from to tenths
     → After (way from to tenths) to [] 0 (event_of s e)
-unfolding run stepped command_tests_of step_tests number_of step_overflows stepped_time stepped_level level_to_restore
+unfolding run stepped command_tests_of step_tests number_of step_overflows stepped_time stepped_level level_to_put_back
 step_starts s e r c from to tenths k ok level low high small says =
     go_to_starts (event_of s e) (quiet s') request at on c from to tenths to
     (runs_as s e (kind.Command (command.Step r)) k ok free
@@ -185,7 +186,7 @@ scene_starts : (s : LevelControlState) (e : Event) (r : SceneRequest) (c level f
     → s.current_level ≡ Some c → s.settings.range.min ≤ s.settings.range.max → r.level ≡ Some level → level ≤ 254
     → goes c (within s.settings.range.min s.settings.range.max level) (tenths_down r.transition_time).0 ≡ Goes from to tenths
     → After (way from to tenths) to [] 0 (event_of s e)
-unfolding run recalled command_tests_of scene_tests level_to_restore
+unfolding run recalled command_tests_of scene_tests level_to_put_back
 scene_starts s e r c level from to tenths k ok p known order given small says =
     go_to_starts (event_of s e) (quiet (accept s e.moment.at)) request e.moment.at e.moment.on_off c from to tenths to
     (runs_as s e (kind.Command (command.Scene r)) k ok free
@@ -208,7 +209,7 @@ off_starts : (s : LevelControlState) (e : Event) (c from to tenths : ℕ)
     → s.settings.range.min ≤ s.settings.range.max → s.settings.range.max ≤ 254
     → off c s.settings.range.min s.attributes.off_transition_time s.attributes.on_off_transition_time.0 ≡ Goes from to tenths
     → After (way from to tenths) (after_off s.attributes.on_level c to) [] 0 (event_of s e)
-unfolding run switched turned_off off_time command_tests_of level_to_restore
+unfolding run switched turned_off off_time command_tests_of level_to_put_back
 off_starts s e c from to tenths k ok level order small says =
     go_to_starts (event_of s e) (quiet s') request at on c from to tenths (after_off s.attributes.on_level c to)
     (runs_as s e (kind.Command (command.OnOffChanged false)) k ok refl) level named (ends s.attributes.on_level)
@@ -236,7 +237,7 @@ off_starts s e c from to tenths k ok level order small says =
     named : goes c request.target request.transition_time.0 ≡ Goes from to tenths
     named = rw (minimum, time) says
 
-    ends : (l : Level) → left_at (level_to_restore (Some c) l) request.target ≡ after_off l c to
+    ends : (l : Level) → left_at (level_to_put_back (Some c) l) request.target ≡ after_off l c to
     ends (Some level) = (leads_to c request.target request.transition_time.0 from to tenths named).0
     ends None = refl
 
@@ -246,9 +247,9 @@ on_begins : (s : LevelControlState) (e : Event) → e.kind ≡ kind.Command (com
     → s.settings.range.min ≤ s.settings.range.max → IsLevel s.attributes.on_level → IsLevel s.current_level → (then : Effect)
     → after_on s.attributes.on_level s.current_level s.settings.range.min s.settings.range.max s.attributes.on_transition_time
     s.attributes.on_off_transition_time.0 ≡ then
-    → After (s.settings.range.min ∷ way_of then) (level_after then s.settings.range.min) [] 0 (event_of s e)
+    → After (s.settings.range.min ∷ way_of then) (level_reached then s.settings.range.min) [] 0 (event_of s e)
 on_begins s e k ok order level_on level then says =
-    subst (λ (x : Outcome). After (s.settings.range.min ∷ way_of then) (level_after then s.settings.range.min) [] 0 x)
+    subst (λ (x : Outcome). After (s.settings.range.min ∷ way_of then) (level_reached then s.settings.range.min) [] 0 x)
     (sym
     (ap (λ (x : EventKind). event_of s (event e.moment.at e.moment.on_off x)) k
     ∙ on_is s e.moment.at e.moment.on_off
@@ -256,7 +257,7 @@ on_begins s e k ok order level_on level then says =
     (subst (λ (x : EventKind). accepted s (event e.moment.at e.moment.on_off x) ≡ true) k ok))))
     (record {
       way_is = ap (λ (x : Effect). s.settings.range.min ∷ way_of x) says;
-      ends = ap (λ (x : Effect). level_after x s.settings.range.min) says;
+      ends = ap (λ (x : Effect). level_reached x s.settings.range.min) says;
       order = order;
       level_on = level_on;
       level_before = level;
@@ -372,6 +373,6 @@ commands_end = record {
       completes (way from to tenths) (after_off s.attributes.on_level c to) (event_of s e)
       (off_starts s e c from to tenths k ok level order small says);
   on_ends = λ s e then k ok order level_on level says.
-      completes (s.settings.range.min ∷ way_of then) (level_after then s.settings.range.min) (event_of s e)
+      completes (s.settings.range.min ∷ way_of then) (level_reached then s.settings.range.min) (event_of s e)
       (on_begins s e k ok order level_on level then says);
 }

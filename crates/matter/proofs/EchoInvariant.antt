@@ -17,9 +17,10 @@ use Rattle.units.specs.declared.Micros.{Micros}
 use Rattle.units.specs.declared.Millis.{Millis}
 use Rattle.units.specs.declared.Tenths.{Tenths}
 use Rattle.transitions.specs.Actions.{Reports, reports_of}
-use Rattle.transitions.specs.Events.{event, act, act_coupled}
+use Rattle.transitions.specs.Events.{event}
+use Rattle.transitions.specs.Actions.{act, act_coupled}
 use Rattle.transitions.specs.Fade.{next_level, wait_or_ask}
-use Rattle.transitions.specs.Tasks.{fade_last, fade_left, fade_next, fade_asking, fade_waiting, fade_from, after_fade, begin_fade, level_to_restore, is_move_end, next_move, task_open, task_due, phase_open, phase_due}
+use Rattle.transitions.specs.Tasks.{fade_last, fade_left, fade_next, fade_asking, fade_waiting, fade_from, kept_to_put_back, begin_fade, level_to_put_back, is_move_end, next_move, task_open, task_due, phase_open, phase_due}
 use Rattle.transitions.specs.Types.{Level, Time, is_level, is_missing, level_or}
 use Rattle.transitions.specs.declared.actions.ActionKind.TheVariants.{D, P, L, E}
 use Rattle.transitions.specs.declared.events.DeviceAnswer.{DeviceAnswer}
@@ -31,7 +32,7 @@ use Rattle.transitions.specs.declared.tasks.Begin.TheVariants as begin
 use Rattle.transitions.specs.declared.tasks.Fade.{Fade}
 use Rattle.transitions.specs.declared.tasks.FadeRequest.{FadeRequest}
 use Rattle.transitions.specs.declared.tasks.Move.{Move}
-use Rattle.transitions.specs.declared.tasks.MoveCourse.{MoveCourse}
+use Rattle.transitions.specs.declared.tasks.Motion.{Motion}
 use Rattle.transitions.specs.declared.tasks.MoveStep.{MoveStep}
 use Rattle.transitions.specs.declared.tasks.MoveStep.TheVariants as next
 use Rattle.transitions.specs.declared.tasks.OnReaction.{OnReaction}
@@ -43,11 +44,12 @@ use Rattle.transitions.specs.declared.types.Mode.{Mode}
 use Rattle.transitions.specs.declared.types.Mode.TheVariants.{Up, Down}
 use Rattle.transitions.proofs.RuleLaws.{moves_up, moves_down}
 use Rattle.level_control.specs.Answer.{Outcome, done}
-use Rattle.level_control.specs.Events.{fade_answered_in, move_answered_in, answered_in, woken_in, number_of, event_of}
-use Rattle.level_control.specs.Fades.{fade_stored, fade_told, restored, fade_ended_by, fade_ended, fade_then, fade_goes_on, move_to_level_transition, fade_answered, fade_woken}
+use Rattle.level_control.specs.Handle.{fade_answered_in, move_answered_in, answered_in, woken_in, number_of, event_of}
+use Rattle.level_control.specs.Fades.{fade_stored, fade_told, ended_put_back, fade_ended_by, fade_ended, fade_then, fade_goes_on, move_to_level_transition, fade_answered, fade_woken}
 use Rattle.level_control.specs.Moves.{leaves_min, move_ends, move_by, move_goes_on, move_next, move_then, move_transition, move_answered}
 use Rattle.level_control.specs.Path.{path}
-use Rattle.level_control.specs.Reports.{Told, coupled_by, set_level, told_level, write_remaining_time}
+use Rattle.level_control.specs.Reports.{Told, set_level, told_level, write_remaining_time}
+use Rattle.level_control.specs.Coupling.{coupled_by}
 use Rattle.level_control.specs.Run.{Run, Pending, Nothing, Request, Wait, asks, opened, closed_by, accepted, started, play, next as next_run, last_of, is_echo, only_echo}
 use Rattle.level_control.specs.Starts.{distance}
 use Rattle.level_control.specs.State.{accept, with_task}
@@ -62,7 +64,7 @@ use Rattle.level_control.proofs.SeenLaws.{Silent, silent_append, silent_if, sile
 use Rattle.matter.specs.Matter.{Effect, NoEffect, Goes, goes, within, or_else, after_on}
 use Rattle.matter.specs.Agreement.{IsLevel}
 use Rattle.matter.proofs.Changes.{within_is, given_same}
-use Rattle.matter.specs.Ends.{limit, way as way_in, way_of, level_after, Arrives}
+use Rattle.matter.specs.Ends.{limit, way as way_in, way_of, level_reached, Arrives}
 
 pub last_snoc : (l : List ℕ) (x : ℕ) → last_of (l ++ x ∷ []) ≡ x
 last_snoc [] x = refl
@@ -177,10 +179,10 @@ on_goes s before =
     after_on s.attributes.on_level before s.settings.range.min s.settings.range.max s.attributes.on_transition_time s.attributes.on_off_transition_time.0
 
 -- a change that is none leaves the level, which is its end
-goes_to : (c to T : ℕ) → level_after (goes c to T) c ≡ to
+goes_to : (c to T : ℕ) → level_reached (goes c to T) c ≡ to
 goes_to c to T = by (eqb c to) refl
   where
-    by : (b : Bool) → eqb c to ≡ b → level_after (cond b NoEffect (Goes c to T)) c ≡ to
+    by : (b : Bool) → eqb c to ≡ b → level_reached (cond b NoEffect (Goes c to T)) c ≡ to
     by true e = eqb-true c to e
     by false e = refl
 
@@ -188,23 +190,23 @@ module _ (way : List ℕ) (last : ℕ) where
   -- a running fade: what was asked for, with what is left to ask for, is the way
   pub record Fading (on_level : Level) (asked : List ℕ) (k : ℕ) (p : Pending) (f : Fade) : Type 0 where
     pub split : asked ++ path f.counter f.target ≡ way
-    pub ends : left_at (level_to_restore f.after on_level) f.target ≡ last
+    pub ends : left_at (level_to_put_back f.put_back on_level) f.target ≡ last
     pub timed : (f.counter ≡ f.target → ⊥) → 1 ≤ f.transition_time.0
     pub seen : seen_in f.phase f.counter f.target asked k p
 
   -- a running move
   pub record Moving (lo hi : ℕ) (level : Level) (asked : List ℕ) (k : ℕ) (p : Pending) (m : Move) : Type 0 where
-    pub split : asked ++ path m.asked (limit m.course.mode lo hi) ≡ way
-    pub ends : limit m.course.mode lo hi ≡ last
+    pub split : asked ++ path m.asked (limit m.motion.mode lo hi) ≡ way
+    pub ends : limit m.motion.mode lo hi ≡ last
     pub small : hi ≤ 254
-    pub inside : Inside m.course.mode lo hi m.asked
+    pub inside : Inside m.motion.mode lo hi m.asked
     pub stored : stands m.phase level m.asked
-    pub seen : seen_in m.phase m.asked (limit m.course.mode lo hi) asked k p
+    pub seen : seen_in m.phase m.asked (limit m.motion.mode lo hi) asked k p
 
   -- on's request for the minimum is open
   pub record Reacting (lo hi : ℕ) (on_level : Level) (given : Time) (common : ℕ) (asked : List ℕ) (k : ℕ) (p : Pending) (before : Level) : Type 0 where
     pub way_is : lo ∷ way_of (after_on on_level before lo hi given common) ≡ way
-    pub ends : level_after (after_on on_level before lo hi given common) lo ≡ last
+    pub ends : level_reached (after_on on_level before lo hi given common) lo ≡ last
     pub order : lo ≤ hi
     pub level_on : IsLevel on_level
     pub level_before : IsLevel before
@@ -234,7 +236,7 @@ module _ (way : List ℕ) (last : ℕ) where
 
   -- the next request
   fade_asks : (f : Fade) (remaining : Millis) (at : Micros) (asked : List ℕ) (k : ℕ) (on_level : Level) → asked ++ path f.counter f.target ≡ way
-      → left_at (level_to_restore f.after on_level) f.target ≡ last → ((f.counter ≡ f.target → ⊥) → 1 ≤ f.transition_time.0) → (f.counter ≡ f.target → ⊥)
+      → left_at (level_to_put_back f.put_back on_level) f.target ≡ last → ((f.counter ≡ f.target → ⊥) → 1 ≤ f.transition_time.0) → (f.counter ≡ f.target → ⊥)
       → length asked ≡ k
       → Fading on_level (asked ++ ((fade_asking f remaining at).counter ∷ [])) k Request (fade_asking f remaining at)
   unfolding fade_asking
@@ -254,16 +256,16 @@ module _ (way : List ℕ) (last : ℕ) where
   rests asked k o rest silent level all count = rw (rest, silent.no_ask, silent.no_open Nothing, append-nil) (count, all, level, refl)
 
   fade_rests : (told : Told) (f : Fade) (asked : List ℕ) (k : ℕ) → told.state.current_level ≡ Some f.target
-      → left_at (level_to_restore f.after told.state.attributes.on_level) f.target ≡ last → asked ≡ way → k ≡ length way
-      → After asked k (fade_ended told f.after)
-  unfolding fade_ended restored
-  fade_rests told f asked k level ends all count = by (level_to_restore f.after told.state.attributes.on_level) ends
+      → left_at (level_to_put_back f.put_back told.state.attributes.on_level) f.target ≡ last → asked ≡ way → k ≡ length way
+      → After asked k (fade_ended told f.put_back)
+  unfolding fade_ended ended_put_back
+  fade_rests told f asked k level ends all count = by (level_to_put_back f.put_back told.state.attributes.on_level) ends
     where
       by : (l : Level) → left_at l f.target ≡ last → After asked k (fade_ended_by l told)
       by None e =
           rests asked k (done (with_task told.state task.Rest) (reports_of told.reports)) refl (silent_reports told.reports) (level ∙ ap (λ (x : ℕ). Some x) e) all count
       by (Some before) e =
-          rests asked k (restored told before) refl
+          rests asked k (ended_put_back told before) refl
           (silent_append _ _
           (silent_append _ _ (silent_reports told.reports)
           (silent_if P (not (is_level told.state.current_level before)) (record { no_ask = refl; no_open = λ p. refl })))
@@ -271,7 +273,7 @@ module _ (way : List ℕ) (last : ℕ) where
           (ap (λ (x : ℕ). Some x) e) all count
 
   fade_continues : (told : Told) (f : Fade) (since at : Micros) (asked : List ℕ) (k : ℕ) → asked ++ path f.counter f.target ≡ way
-      → left_at (level_to_restore f.after told.state.attributes.on_level) f.target ≡ last → ((f.counter ≡ f.target → ⊥) → 1 ≤ f.transition_time.0)
+      → left_at (level_to_put_back f.put_back told.state.attributes.on_level) f.target ≡ last → ((f.counter ≡ f.target → ⊥) → 1 ≤ f.transition_time.0)
       → (f.counter ≡ f.target → ⊥) → length asked ≡ k → After asked k (fade_goes_on told f since at)
   unfolding fade_goes_on fade_waiting fade_asking
   fade_continues told f since at asked k split ends timed far count = by (fade_next f since at)
@@ -300,10 +302,10 @@ module _ (way : List ℕ) (last : ℕ) where
       seen : seen_in (Asked since) f.counter f.target asked k p
       seen = subst (λ (q : Phase). seen_in q f.counter f.target asked k p) phase h.seen
 
-      ends : left_at (level_to_restore f.after told.state.attributes.on_level) f.target ≡ last
+      ends : left_at (level_to_put_back f.put_back told.state.attributes.on_level) f.target ≡ last
       ends = rw (told_attributes s f at on v) h.ends
 
-      by : (b : Bool) → fade_last f ≡ b → After asked (k + 1) (cond b (fade_ended told f.after) (fade_goes_on told f since at))
+      by : (b : Bool) → fade_last f ≡ b → After asked (k + 1) (cond b (fade_ended told f.put_back) (fade_goes_on told f since at))
       by true e =
           let here : f.counter ≡ f.target = eqb-true _ _ e in
           let all : asked ≡ way = all_asked asked f.counter f.target h.split here in
@@ -329,7 +331,7 @@ module _ (way : List ℕ) (last : ℕ) where
   request_opens : (r : Reports) (c : Option Bool) (a : ℕ) (p : Pending) → opened (reports_of r ++ act_coupled c ++ act D a) p ≡ Request
   request_opens r c a p = opened_append (reports_of r ++ act_coupled c) (act D a) p
 
-  move_asks : (told : Told) (m : MoveCourse) (at : Micros) (on : Bool) (asked : List ℕ) (k v a : ℕ) → told.state.current_level ≡ Some v
+  move_asks : (told : Told) (m : Motion) (at : Micros) (on : Bool) (asked : List ℕ) (k v a : ℕ) → told.state.current_level ≡ Some v
       → Onward m.mode told.state.settings.range.min told.state.settings.range.max v a
       → asked ++ path v (limit m.mode told.state.settings.range.min told.state.settings.range.max) ≡ way
       → limit m.mode told.state.settings.range.min told.state.settings.range.max ≡ last → told.state.settings.range.max ≤ 254 → length asked ≡ k
@@ -350,7 +352,7 @@ module _ (way : List ℕ) (last : ℕ) where
       coupling : Option Bool
       coupling = leaves_min told.state a m.with_on_off on
 
-  pub move_follows : (told : Told) (m : MoveCourse) (at : Micros) (on : Bool) (asked : List ℕ) (k v : ℕ) → told.state.current_level ≡ Some v
+  pub move_follows : (told : Told) (m : Motion) (at : Micros) (on : Bool) (asked : List ℕ) (k v : ℕ) → told.state.current_level ≡ Some v
       → Short m.mode told.state.settings.range.min told.state.settings.range.max v
       → asked ++ path v (limit m.mode told.state.settings.range.min told.state.settings.range.max) ≡ way
       → limit m.mode told.state.settings.range.min told.state.settings.range.max ≡ last → told.state.settings.range.max ≤ 254 → length asked ≡ k
@@ -372,7 +374,7 @@ module _ (way : List ℕ) (last : ℕ) where
       hi = s.settings.range.max
 
       to : ℕ
-      to = limit m.course.mode lo hi
+      to = limit m.motion.mode lo hi
 
       seen : seen_in (Asked since) m.asked to asked k p
       seen = subst (λ (q : Phase). seen_in q m.asked to asked k p) phase h.seen
@@ -395,37 +397,37 @@ module _ (way : List ℕ) (last : ℕ) where
             seen = (far, seen.1, refl);
           })
       waits_or_asks b far None =
-          move_follows (told b) m.course at on asked (k + 1) m.asked (ap (λ (x : ℕ). Some x) stored) (short m.course.mode lo hi m.asked h.inside far) h.split h.ends
+          move_follows (told b) m.motion at on asked (k + 1) m.asked (ap (λ (x : ℕ). Some x) stored) (short m.motion.mode lo hi m.asked h.inside far) h.split h.ends
           h.small seen.1
 
       by : (b : Bool) → is_move_end m.asked lo hi ≡ b
           → After asked (k + 1)
           (cond b
-          (done (with_task (told b).state task.Rest) (reports_of (told b).reports ++ act_coupled (coupled_by s v m.course.with_on_off on)))
-          (move_next (wait_or_ask since at m.course.period) (told b) m at on))
+          (done (with_task (told b).state task.Rest) (reports_of (told b).reports ++ act_coupled (coupled_by s v m.motion.with_on_off on)))
+          (move_next (wait_or_ask since at m.motion.period) (told b) m at on))
       by true e =
-          let here : m.asked ≡ to = ends_at m.course.mode lo hi m.asked h.inside e in
+          let here : m.asked ≡ to = ends_at m.motion.mode lo hi m.asked h.inside e in
           let all : asked ≡ way = all_asked asked m.asked to h.split here in
-          rests asked (k + 1) (done (with_task (told true).state task.Rest) (reports_of (told true).reports ++ act_coupled (coupled_by s v m.course.with_on_off on)))
+          rests asked (k + 1) (done (with_task (told true).state task.Rest) (reports_of (told true).reports ++ act_coupled (coupled_by s v m.motion.with_on_off on)))
           refl
-          (silent_append _ _ (silent_reports (told true).reports) (silent_coupled (coupled_by s v m.course.with_on_off on)))
+          (silent_append _ _ (silent_reports (told true).reports) (silent_coupled (coupled_by s v m.motion.with_on_off on)))
           (ap (λ (x : ℕ). Some x) (stored ∙ here ∙ h.ends)) all (sym seen.1 ∙ ap length all)
-      by false e = waits_or_asks false (goes_on_at m.course.mode lo hi m.asked e) (wait_or_ask since at m.course.period)
+      by false e = waits_or_asks false (goes_on_at m.motion.mode lo hi m.asked e) (wait_or_ask since at m.motion.period)
 
   move_wake : (s : LevelControlState) (m : Move) (at until : Micros) (on : Bool) (asked : List ℕ) (k : ℕ) (p : Pending)
-      → Moving s.settings.range.min s.settings.range.max s.current_level asked k p m → m.phase ≡ Waiting until → After asked k (move_goes_on (quiet s) m.course at on)
+      → Moving s.settings.range.min s.settings.range.max s.current_level asked k p m → m.phase ≡ Waiting until → After asked k (move_goes_on (quiet s) m.motion at on)
   move_wake s m at until on asked k p h phase =
-      let to = limit m.course.mode s.settings.range.min s.settings.range.max in
+      let to = limit m.motion.mode s.settings.range.min s.settings.range.max in
       let seen : seen_in (Waiting until) m.asked to asked k p = subst (λ (q : Phase). seen_in q m.asked to asked k p) phase h.seen in
       let stored : s.current_level ≡ Some m.asked = subst (λ (q : Phase). stands q s.current_level m.asked) phase h.stored in
-      move_follows (quiet s) m.course at on asked k m.asked stored (short m.course.mode s.settings.range.min s.settings.range.max m.asked h.inside seen.0) h.split h.ends
+      move_follows (quiet s) m.motion at on asked k m.asked stored (short m.motion.mode s.settings.range.min s.settings.range.max m.asked h.inside seen.0) h.split h.ends
       h.small seen.1
 
   -- A target, and the reaction to on.
 
   -- a fade to a target begins, or it is reached
   pub go_to_holds : (told : Told) (r : FadeRequest) (at : Micros) (on : Bool) (asked : List ℕ) (k c : ℕ) → told.state.current_level ≡ Some c
-      → left_at (level_to_restore (after_fade r.restores c) told.state.attributes.on_level) r.target ≡ last
+      → left_at (level_to_put_back (kept_to_put_back r.puts_back c) told.state.attributes.on_level) r.target ≡ last
       → asked ++ way_of (goes c r.target r.transition_time.0) ≡ way → (c ≡ r.target → c ≡ last) → length asked ≡ k → After asked k (go_to told r at on)
   unfolding go_to begin_fade fade_from
   go_to_holds told r at on asked k c level ends split reached count =
@@ -438,7 +440,7 @@ module _ (way : List ℕ) (last : ℕ) where
           rests asked k (go_to_by begin.Reached told r on) refl
           (silent_append _ _
           (silent_append _ _ (silent_reports told.reports) (silent_coupled (coupled_by told.state r.target r.with_on_off on)))
-          (silent_if L (r.restores && is_missing told.state.attributes.on_level) (record { no_ask = refl; no_open = λ p. refl })))
+          (silent_if L (r.puts_back && is_missing told.state.attributes.on_level) (record { no_ask = refl; no_open = λ p. refl })))
           (level ∙ ap (λ (x : ℕ). Some x) (reached (eqb-true _ _ e))) all (sym count ∙ ap length all)
       by false e w =
           rw (asks_after, opened_after)
@@ -452,7 +454,7 @@ module _ (way : List ℕ) (last : ℕ) where
   -- the answer to on's request gives back the minimum: then the level goes on as the document says
   on_answer : (s : LevelControlState) (r : OnReaction) (at : Micros) (on : Bool) (v : ℕ) (asked : List ℕ) (k : ℕ) (p : Pending)
       → Held s asked k p (task.OnReaction r) → v ≡ last_of asked → After asked (k + 1) (on_answered s r at on (device.Level v))
-  unfolding on_answered on_goes_on level_or told_level set_level on_time level_to_restore
+  unfolding on_answered on_goes_on level_or told_level set_level on_time level_to_put_back
   on_answer s r at on v asked k p h echo = by s.attributes.on_level r.before h.level_on h.level_before h.way_is h.ends
     where
       lo : ℕ
@@ -477,7 +479,7 @@ module _ (way : List ℕ) (last : ℕ) where
       count = ap length h.first ∙ omega (arith, h.count)
 
       to_level : (level : ℕ) → level ≤ 254 → lo ∷ way_of (goes lo (within lo hi level) (or_else given common)) ≡ way
-          → level_after (goes lo (within lo hi level) (or_else given common)) lo ≡ last
+          → level_reached (goes lo (within lo hi level) (or_else given common)) lo ≡ last
           → After asked (k + 1) (go_to told (request_to told.state level (on_time told.state) true false false) at on)
       to_level level small w e =
           let request : FadeRequest = request_to told.state level (on_time told.state) true false false in
@@ -488,7 +490,7 @@ module _ (way : List ℕ) (last : ℕ) where
           (ap (λ (x : Effect). asked ++ way_of x) same ∙ ap (λ (l : List ℕ). l ++ way_of (goes lo (within lo hi level) (or_else given common))) h.first ∙ w)
           (λ here. here ∙ to ∙ sym (goes_to lo (within lo hi level) (or_else given common)) ∙ e) count
 
-      by : (o b : Level) → IsLevel o → IsLevel b → lo ∷ way_of (after_on o b lo hi given common) ≡ way → level_after (after_on o b lo hi given common) lo ≡ last
+      by : (o b : Level) → IsLevel o → IsLevel b → lo ∷ way_of (after_on o b lo hi given common) ≡ way → level_reached (after_on o b lo hi given common) lo ≡ last
           → After asked (k + 1) (on_to (level_or o b) told at on)
       by (Some level) b x y w e = to_level level x w e
       by None (Some level) x y w e = to_level level y w e
@@ -528,7 +530,7 @@ module _ (way : List ℕ) (last : ℕ) where
       by (Waiting until) q o = fade_wake s f at until asked k p h q
   after_wake s at on asked k p (task.Move m) o h = by m.phase refl o
     where
-      by : (q : Phase) → m.phase ≡ q → phase_due q at ≡ true → After asked k (move_goes_on (quiet s) m.course at on)
+      by : (q : Phase) → m.phase ≡ q → phase_due q at ≡ true → After asked k (move_goes_on (quiet s) m.motion at on)
       by (Asked since) q o = absurd (false≢true o)
       by (Waiting until) q o = move_wake s m at until on asked k p h q
   after_wake s at on asked k p (task.OnReaction r) o h = absurd (false≢true o)
@@ -641,7 +643,7 @@ module _ (way : List ℕ) (last : ℕ) where
   }
   shown s asked k p task.StartUp q h = absurd h
   shown s asked k p (task.Fade f) q h = underway f.phase f.counter f.target s asked k p h.split h.seen
-  shown s asked k p (task.Move m) q h = underway m.phase m.asked (limit m.course.mode s.settings.range.min s.settings.range.max) s asked k p h.split h.seen
+  shown s asked k p (task.Move m) q h = underway m.phase m.asked (limit m.motion.mode s.settings.range.min s.settings.range.max) s asked k p h.split h.seen
   shown s asked k p (task.OnReaction r) q h =
       let n : length way ≡ suc (length (way_of (on_goes s r.before))) = ap length (sym h.way_is) in
       record {

@@ -18,7 +18,7 @@ use Rattle.transitions.specs.Types.{Level}
 use Rattle.transitions.specs.declared.events.DeviceAnswer.TheVariants as device
 use Rattle.transitions.specs.declared.events.Event.{Event}
 use Rattle.transitions.specs.declared.events.EventKind.TheVariants as kind
-use Rattle.transitions.specs.declared.tasks.MoveCourse.{MoveCourse}
+use Rattle.transitions.specs.declared.tasks.Motion.{Motion}
 use Rattle.transitions.specs.declared.tasks.MoveStep.{MoveStep}
 use Rattle.transitions.specs.declared.tasks.MoveStep.TheVariants as step
 use Rattle.transitions.specs.declared.tasks.Phase.{Phase}
@@ -26,8 +26,8 @@ use Rattle.transitions.specs.declared.tasks.Phase.TheVariants.{Asked, Waiting}
 use Rattle.transitions.specs.declared.tasks.Task.{Task}
 use Rattle.transitions.specs.declared.tasks.Task.TheVariants as task
 use Rattle.level_control.specs.Answer.{Outcome}
-use Rattle.level_control.specs.Causes.{latest}
-use Rattle.level_control.specs.Events.{woken_in, number_of, event_of}
+use Rattle.level_control.specs.Judge.{latest}
+use Rattle.level_control.specs.Handle.{woken_in, number_of, event_of}
 use Rattle.level_control.specs.Moves.{move_by, move_goes_on}
 use Rattle.level_control.specs.Path.{path}
 use Rattle.level_control.specs.Reports.{Told}
@@ -57,7 +57,7 @@ last_at (x ∷ y ∷ asked) others (a ∷ answers) v more e n =
     last_at (y ∷ asked) others answers v more same shorter
 
 -- after the wake that ends a move's wait, a request is open
-move_opens : (told : Told) (m : MoveCourse) (at : Micros) (on : Bool) (a : ℕ) → next_move told.state.current_level m.mode ≡ step.Asks a
+move_opens : (told : Told) (m : Motion) (at : Micros) (on : Bool) (a : ℕ) → next_move told.state.current_level m.mode ≡ step.Asks a
     → task_open (move_goes_on told m at on).state.task ≡ true
 unfolding move_goes_on
 move_opens told m at on a e = subst (λ (x : MoveStep). task_open (move_by x told m at on).state.task ≡ true) (sym e) refl
@@ -78,7 +78,7 @@ module _ (way : List ℕ) (last : ℕ) where
   open_asks s asked k p (task.Move m) o h = by m.phase o h.seen
     where
       to : ℕ
-      to = limit m.course.mode s.settings.range.min s.settings.range.max
+      to = limit m.motion.mode s.settings.range.min s.settings.range.max
 
       by : (q : Phase) → phase_open q ≡ true → seen_in q m.asked to asked k p → OpenIn way asked k
       by (Asked since) o seen = (path m.asked to, h.split, seen.1)
@@ -161,13 +161,13 @@ module _ (way : List ℕ) (last : ℕ) where
       opens : (until : Micros) → m.phase ≡ Waiting until → (at : Micros) → number_of r.state (event at p.on kind.Wake) ≡ 0
           → task_open (event_of r.state (event at p.on kind.Wake)).state.task ≡ true
       opens until e at z =
-          let seen : seen_in (Waiting until) m.asked (limit m.course.mode lo hi) r.asked r.answers r.pending =
-          subst (λ (y : Phase). seen_in y m.asked (limit m.course.mode lo hi) r.asked r.answers r.pending) e i.seen in
+          let seen : seen_in (Waiting until) m.asked (limit m.motion.mode lo hi) r.asked r.answers r.pending =
+          subst (λ (y : Phase). seen_in y m.asked (limit m.motion.mode lo hi) r.asked r.answers r.pending) e i.seen in
           let stored : r.state.current_level ≡ Some m.asked = subst (λ (y : Phase). stands y r.state.current_level m.asked) e i.stored in
-          let further = onward m.course.mode lo hi m.asked (short m.course.mode lo hi m.asked i.inside seen.0) i.small in
+          let further = onward m.motion.mode lo hi m.asked (short m.motion.mode lo hi m.asked i.inside seen.0) i.small in
           ap (λ (o : Outcome). task_open o.state.task) (wake_is 0 0 1 (omega arith) (omega arith) r.state at p.on z)
           ∙ ap (λ (x : Task). task_open (woken_in x (accept r.state at) at p.on).state.task) q
-          ∙ move_opens (quiet (accept r.state at)) m.course at p.on further.0 (ap (λ (l : Level). next_move l m.course.mode) stored ∙ further.1.asks)
+          ∙ move_opens (quiet (accept r.state at)) m.motion at p.on further.0 (ap (λ (l : Level). next_move l m.motion.mode) stored ∙ further.1.asks)
 
       by : (y : Phase) → m.phase ≡ y → Led r p ps (wake_in y r.state p.on)
       by (Asked since) e = answer_leads p ps goal given r h (ap task_open q ∙ ap phase_open e) split count

@@ -18,8 +18,8 @@ use Rattle.transitions.specs.declared.events.EventKind.TheVariants as kind
 use Rattle.transitions.specs.declared.events.MoveRequest.{MoveRequest}
 use Rattle.transitions.specs.declared.events.StepRequest.{StepRequest}
 use Rattle.transitions.specs.Types.{Rate}
-use Rattle.level_control.specs.Causes.{latest, time_refused, turn_tests, move_tests, step_tests, command_tests_of}
-use Rattle.level_control.specs.Events.{number_of}
+use Rattle.level_control.specs.Judge.{latest, time_refused, turn_tests, move_tests, step_tests, command_tests_of}
+use Rattle.level_control.specs.Handle.{number_of}
 use Rattle.level_control.specs.Moves.{rate_by}
 use Rattle.level_control.specs.declared.state.LevelControlState.{LevelControlState}
 use Rattle.level_control.proofs.EventLaws.{event_number}

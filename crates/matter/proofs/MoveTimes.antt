@@ -13,15 +13,16 @@ use Rattle.std.proofs.lemmas.Nat.{div_below}
 use Rattle.units.specs.Units.{micros, at_most, later, elapsed}
 use Rattle.units.specs.declared.Micros.{Micros}
 use Rattle.transitions.specs.Actions.{reports_of}
-use Rattle.transitions.specs.Events.{event, act_coupled}
+use Rattle.transitions.specs.Events.{event}
+use Rattle.transitions.specs.Actions.{act_coupled}
 use Rattle.transitions.specs.Fade.{wait_or_ask}
-use Rattle.transitions.specs.Moves.{move_period}
+use Rattle.transitions.specs.MovePeriod.{move_period}
 use Rattle.transitions.specs.Tasks.{next_move}
 use Rattle.transitions.specs.declared.events.DeviceAnswer.TheVariants as device
 use Rattle.transitions.specs.declared.events.Event.{Event}
 use Rattle.transitions.specs.declared.events.EventKind.TheVariants as kind
 use Rattle.transitions.specs.declared.tasks.Move.{Move}
-use Rattle.transitions.specs.declared.tasks.MoveCourse.{MoveCourse}
+use Rattle.transitions.specs.declared.tasks.Motion.{Motion}
 use Rattle.transitions.specs.declared.tasks.MoveStep.{MoveStep}
 use Rattle.transitions.specs.declared.tasks.MoveStep.TheVariants as step
 use Rattle.transitions.specs.declared.tasks.Phase.{Phase}
@@ -29,10 +30,11 @@ use Rattle.transitions.specs.declared.tasks.Phase.TheVariants.{Asked, Waiting}
 use Rattle.transitions.specs.declared.tasks.Task.{Task}
 use Rattle.transitions.specs.declared.tasks.Task.TheVariants as task
 use Rattle.level_control.specs.Answer.{Outcome, done}
-use Rattle.level_control.specs.Causes.{latest}
-use Rattle.level_control.specs.Events.{move_answered_in, answered_in, woken_in, number_of, event_of}
+use Rattle.level_control.specs.Judge.{latest}
+use Rattle.level_control.specs.Handle.{move_answered_in, answered_in, woken_in, number_of, event_of}
 use Rattle.level_control.specs.Moves.{move_ends, move_by, move_goes_on, move_next, move_then, move_transition, move_answered}
-use Rattle.level_control.specs.Reports.{Told, coupled_by, set_level, told_level}
+use Rattle.level_control.specs.Reports.{Told, set_level, told_level}
+use Rattle.level_control.specs.Coupling.{coupled_by}
 use Rattle.level_control.specs.Run.{Run, next as next_run, play}
 use Rattle.level_control.specs.State.{accept, with_task}
 use Rattle.level_control.specs.Targets.{quiet}
@@ -60,14 +62,14 @@ abbrev pub Timed : Task → ℕ → Type 0
 Timed task.Rest last = Unit {0}
 Timed task.StartUp last = ⊥
 Timed (task.Fade f) last = ⊥
-Timed (task.Move m) last = (m.course.period.0 ≤ 1000000) × TimedIn m.phase last
+Timed (task.Move m) last = (m.motion.period.0 ≤ 1000000) × TimedIn m.phase last
 Timed (task.OnReaction r) last = ⊥
 
 -- the state after an event at a time
 abbrev pub Comes : Micros → LevelControlState → Type 0
 Comes at s = (s.last_accepted ≡ at) × Timed s.task at.0
 
-pub goes_on_comes : (t : Told) (m : MoveCourse) (at : Micros) (on : Bool) → m.period.0 ≤ 1000000 → t.state.last_accepted ≡ at → Comes at (move_goes_on t m at on).state
+pub goes_on_comes : (t : Told) (m : Motion) (at : Micros) (on : Bool) → m.period.0 ≤ 1000000 → t.state.last_accepted ≡ at → Comes at (move_goes_on t m at on).state
 unfolding move_goes_on
 goes_on_comes t m at on slow q = by (next_move t.state.current_level m.mode)
   where
@@ -76,16 +78,16 @@ goes_on_comes t m at on slow q = by (next_move t.state.current_level m.mode)
     by step.Ends = (q, tt)
     by (step.Asks a) = (q, (slow, omega arith))
 
-then_comes : (t : Told) (m : Move) (since at : Micros) (on : Bool) → m.course.period.0 ≤ 1000000 → since.0 ≤ at.0 → t.state.last_accepted ≡ at
+then_comes : (t : Told) (m : Move) (since at : Micros) (on : Bool) → m.motion.period.0 ≤ 1000000 → since.0 ≤ at.0 → t.state.last_accepted ≡ at
     → Comes at (move_then t m since at on).state
 unfolding move_then wait_or_ask
-then_comes t m since at on slow le q = by (at_most (elapsed since at) m.course.period)
+then_comes t m since at on slow le q = by (at_most (elapsed since at) m.motion.period)
   where
-    by : (b : Bool) → Comes at (move_next (cond b (Some (later since m.course.period)) None) t m at on).state
+    by : (b : Bool) → Comes at (move_next (cond b (Some (later since m.motion.period)) None) t m at on).state
     by true = (q, (slow, omega arith))
-    by false = goes_on_comes t m.course at on slow q
+    by false = goes_on_comes t m.motion at on slow q
 
-transition_comes : (s : LevelControlState) (m : Move) (since at : Micros) (on : Bool) (v : ℕ) → m.course.period.0 ≤ 1000000 → since.0 ≤ at.0
+transition_comes : (s : LevelControlState) (m : Move) (since at : Micros) (on : Bool) (v : ℕ) → m.motion.period.0 ≤ 1000000 → since.0 ≤ at.0
     → Comes at (move_transition (accept s at) m since at on v).state
 unfolding move_transition told_level set_level
 transition_comes s m since at on v slow le = by (move_ends (accept s at) m.asked)
@@ -94,7 +96,7 @@ transition_comes s m since at on v slow le = by (move_ends (accept s at) m.asked
         → Comes at
         (cond b
         (done (with_task (told_level (accept s at) (Some v) at b).state task.Rest)
-        (reports_of (told_level (accept s at) (Some v) at b).reports ++ act_coupled (coupled_by (accept s at) v m.course.with_on_off on)))
+        (reports_of (told_level (accept s at) (Some v) at b).reports ++ act_coupled (coupled_by (accept s at) v m.motion.with_on_off on)))
         (move_then (told_level (accept s at) (Some v) at b) m since at on)).state
     by true = (refl, tt)
     by false = then_comes (told_level (accept s at) (Some v) at false) m since at on slow le refl
@@ -119,7 +121,7 @@ wake_comes : (s : LevelControlState) (at : Micros) (on : Bool) (x : Task) → s.
 wake_comes s at on task.Rest q h = (refl, subst (λ (x : Task). Timed x at.0) (sym q) tt)
 wake_comes s at on task.StartUp q h = absurd h
 wake_comes s at on (task.Fade f) q h = absurd h
-wake_comes s at on (task.Move m) q h = goes_on_comes (quiet (accept s at)) m.course at on h.0 refl
+wake_comes s at on (task.Move m) q h = goes_on_comes (quiet (accept s at)) m.motion at on h.0 refl
 wake_comes s at on (task.OnReaction r) q h = absurd h
 
 -- after an event at a time, refused or not

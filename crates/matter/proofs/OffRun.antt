@@ -10,7 +10,7 @@ use lib.Dec.{eqb}
 use Rattle.std.proofs.lemmas.Bool.{and_parts}
 use Rattle.units.specs.declared.Micros.{Micros}
 use Rattle.transitions.specs.Events.{event}
-use Rattle.transitions.specs.Tasks.{begin_fade, fade_from, fade_last, fade_next, fade_asking, fade_waiting, level_to_restore, task_open, task_due, phase_open, phase_due}
+use Rattle.transitions.specs.Tasks.{begin_fade, fade_from, fade_last, fade_next, fade_asking, fade_waiting, level_to_put_back, task_open, task_due, phase_open, phase_due}
 use Rattle.transitions.specs.Types.{Level, is_level}
 use Rattle.transitions.specs.declared.actions.ActionKind.TheVariants.{P, L}
 use Rattle.transitions.specs.declared.events.DeviceAnswer.{DeviceAnswer}
@@ -27,11 +27,12 @@ use Rattle.transitions.specs.declared.tasks.Task.{Task}
 use Rattle.transitions.specs.declared.tasks.Task.TheVariants as task
 use Rattle.level_control.specs.State.{accept}
 use Rattle.level_control.specs.Answer.{Outcome}
-use Rattle.level_control.specs.Causes.{command_tests_of}
-use Rattle.level_control.specs.Events.{fade_answered_in, answered_in, woken_in, run, number_of, event_of}
-use Rattle.level_control.specs.Fades.{fade_told, fade_stored, restored, fade_ended_by, fade_ended, fade_then, fade_goes_on, move_to_level_transition, fade_answered, fade_woken}
+use Rattle.level_control.specs.Judge.{command_tests_of}
+use Rattle.level_control.specs.Handle.{fade_answered_in, answered_in, woken_in, run, number_of, event_of}
+use Rattle.level_control.specs.Fades.{fade_told, fade_stored, ended_put_back, fade_ended_by, fade_ended, fade_then, fade_goes_on, move_to_level_transition, fade_answered, fade_woken}
 use Rattle.level_control.specs.Reactions.{turned_off, switched, off_time}
-use Rattle.level_control.specs.Reports.{Told, set_level, write_remaining_time, coupled_by}
+use Rattle.level_control.specs.Reports.{Told, set_level, write_remaining_time}
+use Rattle.level_control.specs.Coupling.{coupled_by}
 use Rattle.level_control.specs.Run.{Run, Pending, Nothing, opened, closed_by, accepted, started, is_onward, only_onward, play, next as next_run}
 use Rattle.level_control.specs.Targets.{go_to, go_to_by, request_to, quiet}
 use Rattle.level_control.specs.declared.state.LevelControlState.{LevelControlState}
@@ -51,7 +52,7 @@ module _ (c : ℕ) (on_level : Level) where
   abbrev Held : ℕ → Pending → Level → Task → Type 0
   Held reached p level task.Rest = (level ≡ Some (after_off on_level c reached)) × (p ≡ Nothing)
   Held reached p level task.StartUp = ⊥
-  Held reached p level (task.Fade f) = (f.after ≡ Some c) × (p ≡ pending_in f.phase)
+  Held reached p level (task.Fade f) = (f.put_back ≡ Some c) × (p ≡ pending_in f.phase)
   Held reached p level (task.Move m) = ⊥
   Held reached p level (task.OnReaction r) = ⊥
 
@@ -65,21 +66,21 @@ module _ (c : ℕ) (on_level : Level) where
   -- an answer with a level
   ended : (told : Told) (v : ℕ) → told.state.attributes.on_level ≡ on_level → told.state.current_level ≡ Some v
       → After v (fade_ended told (Some c))
-  unfolding fade_ended level_to_restore restored
+  unfolding fade_ended level_to_put_back ended_put_back
   ended told v stays level = by told.state.attributes.on_level stays
     where
-      quietly : Silent (restored told c).actions
+      quietly : Silent (ended_put_back told c).actions
       quietly =
           silent_append _ _
           (silent_append _ _ (silent_reports told.reports)
           (silent_if P (not (is_level told.state.current_level c)) (record { no_ask = refl; no_open = λ p. refl })))
           (record { no_ask = refl; no_open = λ p. refl })
 
-      by : (l : Level) → l ≡ on_level → After v (fade_ended_by (level_to_restore (Some c) l) told)
+      by : (l : Level) → l ≡ on_level → After v (fade_ended_by (level_to_put_back (Some c) l) told)
       by (Some x) q = (stays, (level ∙ ap (λ (l : Level). Some (after_off l c v)) q, (silent_reports told.reports).no_open Nothing))
       by None q = (stays, (ap (λ (l : Level). Some (after_off l c v)) q, quietly.no_open Nothing))
 
-  goes_on : (f : Fade) (since at : Micros) (told : Told) (v : ℕ) → f.after ≡ Some c → told.state.attributes.on_level ≡ on_level
+  goes_on : (f : Fade) (since at : Micros) (told : Told) (v : ℕ) → f.put_back ≡ Some c → told.state.attributes.on_level ≡ on_level
       → After v (fade_goes_on told f since at)
   unfolding fade_goes_on fade_waiting fade_asking
   goes_on f since at told v puts stays = by (fade_next f since at)
@@ -88,7 +89,7 @@ module _ (c : ℕ) (on_level : Level) where
       by (Some until) = rw opened_after (stays, (puts, refl))
       by None = rw opened_after (stays, (puts, refl))
 
-  answer_keeps : (s : LevelControlState) (f : Fade) (since at : Micros) (on : Bool) (v : ℕ) → f.after ≡ Some c → s.attributes.on_level ≡ on_level
+  answer_keeps : (s : LevelControlState) (f : Fade) (since at : Micros) (on : Bool) (v : ℕ) → f.put_back ≡ Some c → s.attributes.on_level ≡ on_level
       → After v (move_to_level_transition s f since at on v)
   unfolding move_to_level_transition fade_told fade_stored set_level write_remaining_time
   answer_keeps s f since at on v puts stays = by (fade_last f)
@@ -96,7 +97,7 @@ module _ (c : ℕ) (on_level : Level) where
       told : Told
       told = fade_told s f at on v
 
-      by : (b : Bool) → After v (cond b (fade_ended told f.after) (fade_goes_on told f since at))
+      by : (b : Bool) → After v (cond b (fade_ended told f.put_back) (fade_goes_on told f since at))
       by true = subst (λ (a : Option ℕ). After v (fade_ended told a)) (sym puts) (ended told v stays refl)
       by false = goes_on f since at told v puts stays
 
@@ -211,7 +212,7 @@ module _ (c : ℕ) (on_level : Level) where
   rests reached p l (task.OnReaction r) n h = absurd h
 
   -- MIN is the target: the fade begins, or it is reached already
-  begins : (told : Told) (r : FadeRequest) (at : Micros) (on : Bool) → r.restores ≡ true → told.state.attributes.on_level ≡ on_level
+  begins : (told : Told) (r : FadeRequest) (at : Micros) (on : Bool) → r.puts_back ≡ true → told.state.attributes.on_level ≡ on_level
       → told.state.current_level ≡ Some c → After c (go_to told r at on)
   unfolding go_to begin_fade fade_from
   begins told r at on puts stays level =

@@ -21,9 +21,9 @@ use Rattle.transitions.specs.declared.tasks.Task.{Task}
 use Rattle.transitions.specs.declared.tasks.Task.TheVariants as task
 use Rattle.level_control.specs.State.{accept}
 use Rattle.level_control.specs.Answer.{Outcome}
-use Rattle.level_control.specs.Causes.{command_tests_of}
-use Rattle.level_control.specs.Events.{answered_in, run, number_of, event_of}
-use Rattle.level_control.specs.Rest.{start_up_or, start_up_level, start_up_at, started_up, stored_start_up, start_up_answered}
+use Rattle.level_control.specs.Judge.{command_tests_of}
+use Rattle.level_control.specs.Handle.{answered_in, run, number_of, event_of}
+use Rattle.level_control.specs.StartUp.{start_up_or, start_up_level, start_up_at, started_up, stored_start_up, start_up_answered}
 use Rattle.level_control.specs.Run.{Run, Pending, Nothing, Request, asks, opened, closed_by, accepted, started, is_echo, only_echo, last_of, play, next as next_run}
 use Rattle.level_control.specs.declared.state.LevelControlState.{LevelControlState}
 use Rattle.level_control.proofs.EventLaws.{event_number}

@@ -17,8 +17,8 @@ use Rattle.transitions.specs.declared.tasks.Task.TheVariants as task
 use Rattle.transitions.specs.Types.{Level}
 use Rattle.transitions.specs.declared.types.OptionsBitmap.{OptionsBitmap}
 use Rattle.level_control.specs.Answer.{Outcome}
-use Rattle.level_control.specs.Causes.{latest}
-use Rattle.level_control.specs.Events.{event_of}
+use Rattle.level_control.specs.Judge.{latest}
+use Rattle.level_control.specs.Handle.{event_of}
 use Rattle.level_control.specs.Run.{Run, Nothing, accepted, asks, started, next, play, only_onward, only_echo, all_refused, state_after}
 use Rattle.event_theorems.specs.Table.{request_open}
 use Rattle.level_theorems.specs.Covered.{Begins}
@@ -149,7 +149,7 @@ pub record Agreement : Type 0 where
       → Begins from to tenths a.moment.at (event_of (state_after (event_of s e).state es) a).state
   -- the end of off: the fade keeps the level at its start, and after its last answer CurrentLevel is what the document says
   pub off_ends : (s : LevelControlState) (e : Event) (f : Fade) (stored v : ℕ)
-      → s.task ≡ task.Fade f → f.after ≡ Some stored → fade_last f ≡ true → e.kind ≡ kind.Answer (device.Level v) → accepted s e ≡ true
+      → s.task ≡ task.Fade f → f.put_back ≡ Some stored → fade_last f ≡ true → e.kind ≡ kind.Answer (device.Level v) → accepted s e ≡ true
       → (event_of s e).state.current_level ≡ Some (after_off s.attributes.on_level stored v)
   -- Off from a known level, in any state: whatever levels the device answers, if only these and wakes are accepted up to rest, CurrentLevel is then what the
   -- document says, where the device is being told by the last answer, or, nothing being asked, the level at the command

@@ -15,8 +15,8 @@ use Rattle.transitions.specs.declared.tasks.Task.TheVariants as task
 use Rattle.transitions.specs.declared.types.Mode.{Mode}
 use Rattle.transitions.specs.declared.types.Mode.TheVariants.{Up, Down}
 use Rattle.level_control.specs.Answer.{Outcome}
-use Rattle.level_control.specs.Causes.{latest}
-use Rattle.level_control.specs.Events.{event_of}
+use Rattle.level_control.specs.Judge.{latest}
+use Rattle.level_control.specs.Handle.{event_of}
 use Rattle.level_control.specs.Path.{path}
 use Rattle.level_control.specs.Run.{Run, Nothing, accepted, waits, started, play, only_echo}
 use Rattle.level_control.specs.declared.state.LevelControlState.{LevelControlState}
@@ -44,9 +44,9 @@ way_of (Goes from to tenths) = way from to tenths
 way_of _ = []
 
 -- CurrentLevel after it, from a level
-abbrev pub level_after : Effect → ℕ → ℕ
-level_after (Goes from to tenths) level = to
-level_after _ level = level
+abbrev pub level_reached : Effect → ℕ → ℕ
+level_reached (Goes from to tenths) level = to
+level_reached _ level = level
 
 -- what holds after the list, with k answers accepted, of a command whose way has n levels, and after which CurrentLevel is `last`
 pub record Arrives (way : List ℕ) (last : ℕ) (r : Run) : Type 0 where
@@ -129,4 +129,4 @@ pub record CommandsEnd : Type 0 where
       → s.settings.range.min ≤ s.settings.range.max → IsLevel s.attributes.on_level → IsLevel s.current_level
       → after_on s.attributes.on_level s.current_level s.settings.range.min s.settings.range.max s.attributes.on_transition_time
       s.attributes.on_off_transition_time.0 ≡ then
-      → Completes (s.settings.range.min ∷ way_of then) (level_after then s.settings.range.min) (event_of s e)
+      → Completes (s.settings.range.min ∷ way_of then) (level_reached then s.settings.range.min) (event_of s e)

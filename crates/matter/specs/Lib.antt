@@ -1,3 +1,4 @@
+-- The pages of definitions, each over those before it.
 pub mod Matter
 pub mod Agreement
 pub mod Parts

@@ -1,5 +1,5 @@
 -- What the Matter Application Cluster Specification, Level Control (revision 6), says of whole commands, in our words and without our definitions: it
--- goes on from the rules in transitions/specs/Matter.antt. The document itself was not at hand. Each definition is marked:
+-- goes on from the rules in transitions/specs/Matter.antt. The document itself is not at hand. Each definition is marked:
 --   [source]   quoted in the comments of the source, level_control.rs
 --   [told]     told by others, as in a list of known disagreements; not seen in the text
 --   [general]  general knowledge, not checked against the text

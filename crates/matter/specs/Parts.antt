@@ -2,7 +2,8 @@
 -- that shows it. Marks as in Matter.antt, where the document's side is said here alone.
 use Rattle.std.specs.Prelude.{ℕ, Bool, true, false, ◌≡◌, List, [], ◌∷◌, Some, None}
 use Rattle.units.specs.Units.{tenths, micros, millis}
-use Rattle.transitions.specs.Events.{event, action}
+use Rattle.transitions.specs.Events.{event}
+use Rattle.transitions.specs.Actions.{action}
 use Rattle.transitions.specs.declared.actions.Action.{Action}
 use Rattle.transitions.specs.declared.actions.ActionKind.TheVariants.{D, P, S, C, L, E}
 use Rattle.transitions.specs.declared.events.DeviceAnswer.TheVariants as device
@@ -15,7 +16,7 @@ use Rattle.transitions.specs.declared.types.Mode.{Mode}
 use Rattle.transitions.specs.declared.types.Mode.TheVariants.{Up, Down}
 use Rattle.transitions.specs.Types.{Rate}
 use Rattle.transitions.specs.Types.{Time}
-use Rattle.level_control.specs.Events.{event_of}
+use Rattle.level_control.specs.Handle.{event_of}
 use Rattle.level_control.specs.Run.{state_after}
 use Rattle.level_control.specs.State.{new_state}
 use Rattle.level_control.specs.declared.state.LevelControlState.{LevelControlState}
@@ -79,8 +80,8 @@ answers v = kind.Answer (device.Level v)
 abbrev pub actions_after : LevelControlState → List Event → Event → List Action
 actions_after s es e = (event_of (state_after s es) e).actions
 
-abbrev pub remaining_after : LevelControlState → List Event → ℕ
-remaining_after s es = (state_after s es).remaining_time.0
+abbrev pub remaining_time_after : LevelControlState → List Event → ℕ
+remaining_time_after s es = (state_after s es).remaining_time.0
 
 pub record Parts : Type 0 where
   -- A level of 255 is INVALID_COMMAND; the machine asks for it.
@@ -89,14 +90,14 @@ pub record Parts : Type 0 where
   pub missing_time : ((event_of (new_state (lamp 1 254 false (Some 3) None 2)) (at 0 (to false 13 None))).actions ≡ action D 13 ∷ [])
       × (move_to_level true 1 254 3 13 None 2 ≡ Goes 3 13 2)
   -- Of a fade in 3 tenths 3 remain when it is received; the machine shows what it showed before, until the first answer.
-  pub remaining_at_start_parts : (remaining_after lamp10 (at 0 (to false 13 (Some (tenths 3))) ∷ []) ≡ 0)
+  pub remaining_at_start_parts : (remaining_time_after lamp10 (at 0 (to false 13 (Some (tenths 3))) ∷ []) ≡ 0)
       × (remaining_at_start (move_to_level true 1 254 10 13 (Some (tenths 3)) 0) 0 ≡ 3)
   -- Of a command whose target is reached already no time remains; the machine shows what it showed before.
-  pub remaining_at_target : (remaining_after lamp10
+  pub remaining_at_target : (remaining_time_after lamp10
       (at 0 (to false 13 (Some (tenths 3))) ∷ at 0 (answers 11) ∷ at 0 (to false 11 (Some (tenths 3))) ∷ []) ≡ 2)
       × (remaining_at_start (move_to_level true 1 254 11 11 (Some (tenths 3)) 0) 2 ≡ 0)
   -- After a move has replaced the fade the time that the fade showed stays, and the move itself writes none.
-  pub remaining_in_move : remaining_after lamp10
+  pub remaining_in_move : remaining_time_after lamp10
       (at 0 (to false 13 (Some (tenths 3))) ∷ at 0 (answers 11) ∷ at 0 (moves Up (Some 10)) ∷ at 0 (answers 12) ∷ []) ≡ 2
   -- A with-on/off command sets OnOff before the level leaves the minimum [told]; the machine couples after the first answer.
   pub coupled_late : ((event_of (new_state (lamp 1 254 true (Some 1) None 0)) (at 0 (to true 13 None))).actions ≡ action D 13 ∷ [])
@@ -110,7 +111,7 @@ pub record Parts : Type 0 where
   pub off_from_missing : (event_of (new_state (lamp 1 254 false None None 0)) (at 0 (kind.Command (command.OnOffChanged false)))).actions ≡ action E 11 ∷ []
   -- The off time is that from the maximum level to the minimum level; the machine takes it for the whole way, here of 9 of 253 levels in 11 tenths,
   -- of which 10 are shown after the first answer.
-  pub off_time_parts : (remaining_after (new_state (configured (lamp 1 254 true (Some 10) None 1) None (Some (tenths 11))))
+  pub off_time_parts : (remaining_time_after (new_state (configured (lamp 1 254 true (Some 10) None 1) None (Some (tenths 11))))
       (event (micros 0) true (kind.Command (command.OnOffChanged false)) ∷ event (micros 0) true (answers 9) ∷ []) ≡ 10)
       × (part_of_time 1 254 9 11 ≡ 0)
   -- A step whose time has too large a product is refused; the document reduces the time.

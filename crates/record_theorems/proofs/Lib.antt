@@ -1,3 +1,4 @@
+-- The files of lemmas, each over those before it.
 pub mod RecordRuns
 pub mod StartFits
 pub mod WrittenRecords

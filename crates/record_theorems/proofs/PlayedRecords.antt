@@ -1,4 +1,4 @@
--- The small play of Sheet as records, and a play for each of the five starts, computed. Assumes nothing.
+-- The small play of docs/RULES.md as records, and a play for each of the five starts, computed. Assumes nothing.
 use Rattle.std.specs.Prelude.{Some}
 use Prim.Native.Nat.{ℕ}
 use mathlib.Core.Bool.{Bool, true, false, ◌&&◌}
@@ -18,29 +18,31 @@ use Rattle.transitions.specs.Fade.{fade_period, is_transition_start, remaining_a
 use Rattle.transitions.specs.Matter.{executes}
 use Rattle.transitions.specs.Options.{should_continue}
 use Rattle.transitions.specs.RemainingTime.{remaining_time_due}
-use Rattle.transitions.specs.Tasks.{fade_asking, fade_waiting, fade_from, level_to_restore, begin_fade}
+use Rattle.transitions.specs.Tasks.{fade_asking, fade_waiting, fade_from, level_to_put_back, begin_fade}
 use Rattle.transitions.specs.Types.{same_level, level_or, time_or}
 use Rattle.level_control.specs.State.{new_state}
 use Rattle.transitions.specs.Actions.{reports_of}
-use Rattle.level_control.specs.Reports.{write_remaining_time, level_due, set_level, told_level, coupled_by, continues}
+use Rattle.level_control.specs.Reports.{write_remaining_time, level_due, set_level, told_level}
+use Rattle.level_control.specs.Coupling.{coupled_by}
+use Rattle.level_control.specs.Judge.{continues}
 use Rattle.level_control.specs.Targets.{go_to, moved_to_level, stepped_level, stepped_time, stepped, recalled}
-use Rattle.level_control.specs.Fades.{fade_coupling, fade_stored, fade_told, restored, fade_ended, fade_goes_on, move_to_level_transition, fade_answered, fade_woken}
+use Rattle.level_control.specs.Fades.{fade_coupling, fade_stored, fade_told, ended_put_back, fade_ended, fade_goes_on, move_to_level_transition, fade_answered, fade_woken}
 use Rattle.level_control.specs.Reactions.{on_time, off_time, turned_on, on_goes_on, on_answered, turned_off, switched}
-use Rattle.level_control.specs.Causes.{time_refused, turn_tests, move_to_level_tests, step_overflows, step_tests, scene_tests, level_tests, command_tests_of}
-use Rattle.level_control.specs.Events.{answered, woken, run, number_of, event_of}
+use Rattle.level_control.specs.Judge.{time_refused, turn_tests, move_to_level_tests, step_overflows, step_tests, scene_tests, level_tests, command_tests_of}
+use Rattle.level_control.specs.Handle.{answered, woken, run, number_of, event_of}
 use Rattle.level_control.specs.Run.{Request, next, started}
 use Rattle.level_control.specs.Starts.{start_of, on_start, distance}
-use Rattle.records.specs.Events.{event_read, kind_read}
+use Rattle.records.specs.EventRecord.{event_read, kind_read}
 use Rattle.records.specs.Laws.{AllBytes}
-use Rattle.records.specs.Settings.{settings_at, settings_read}
+use Rattle.records.specs.SettingsRecord.{settings_at, settings_read}
 use Rattle.sheet.specs.Lines.{record_outcome, outcomes_of}
 use Rattle.transitions.specs.Events.{event}
 use Rattle.transitions.specs.declared.events.Event.{Event}
 use Rattle.transitions.specs.declared.events.EventKind.TheVariants as kind
 use Rattle.transitions.specs.declared.settings.Settings.{Settings}
 use Rattle.level_control.specs.Answer.{Outcome}
-use Rattle.record_theorems.specs.RecordTheorems.{Configured, later}
-use Rattle.record_theorems.specs.RecordPlays.{Record, bytes_of, answer_to, answers_of, seen, only_onward, StartsAt, directly, after_on}
+use Rattle.record_theorems.specs.RecordTheorems.{Configured, answers_after}
+use Rattle.record_theorems.specs.RecordPlays.{Record, all_bytes, answer_to, answers_of, seen, only_onward, StartsAt, directly, after_on}
 use Rattle.record_theorems.specs.RecordInstance.{settings_bytes, start_bytes, at, numbers, Instance, lamp_bytes, event_bytes, move_to13, step_by3, off, scene_of13, StartInstance, StartInstances}
 use Rattle.record_theorems.proofs.RecordsHold.{every_fade_recorded, records_come_to_rest}
 use Rattle.level_theorems.specs.Replies.{answers_from, in_time}
@@ -78,7 +80,7 @@ start_event = event (micros 2000000) false (kind.Command (command.MoveToLevel (r
 })))
 
 pub instance : Instance
-unfolding answered begin_fade command_tests_of continues coupled_by coupled_on_off current_level_due event_of event_read executes fade_answered fade_asking fade_coupling fade_ended fade_from fade_goes_on fade_period fade_stored fade_told fade_waiting fade_woken first_cause go_to is_transition_start kind_read level_due level_or level_tests level_to_restore move_to_level_tests move_to_level_transition moved_to_level new_state next next_level number_of off_time on_answered on_goes_on on_time outcomes_of rate_in_force recalled record_outcome remaining_after remaining_time_due reports_of restored run same_level scaled_floor scene_tests set_level settings_read should_continue start_of step_level step_overflows step_tests step_time stepped stepped_level stepped_time switched target_level time_or time_refused told_level turn_tests turned_off turned_on wait_or_ask woken write_remaining_time
+unfolding answered begin_fade command_tests_of continues coupled_by coupled_on_off current_level_due event_of event_read executes fade_answered fade_asking fade_coupling fade_ended fade_from fade_goes_on fade_period fade_stored fade_told fade_waiting fade_woken first_cause go_to is_transition_start kind_read level_due level_or level_tests level_to_put_back move_to_level_tests move_to_level_transition moved_to_level new_state next next_level number_of off_time on_answered on_goes_on on_time outcomes_of rate_in_force recalled record_outcome remaining_after remaining_time_due reports_of ended_put_back run same_level scaled_floor scene_tests set_level settings_read should_continue start_of step_level step_overflows step_tests step_time stepped stepped_level stepped_time switched target_level time_or time_refused told_level turn_tests turned_off turned_on wait_or_ask woken write_remaining_time
 instance =
     let x : Settings = settings_at settings_bytes in
     let first : Record = held start_bytes refl in
@@ -118,12 +120,12 @@ follow =
 row : (x : Settings) (head : List ℕ) (conf : Configured x) → conf.head.bytes ≡ head → (up : List Record) (o : Outcome) (c t : ℕ) (got asked : List ℕ)
     → StartsAt (new_state x) up o c t 3 → (c ≡ t → ⊥) → distance t c ≡ 3
     → numbers (answers_of (new_state x) up) ≡ got
-    → numbers (later x up follow) ≡ 6 ∷ 1 ∷ 0 ∷ 0 ∷ 8 ∷ 0 ∷ 0 ∷ []
-    → only_onward follow (later x up follow) ≡ true
-    → (seen (started o) follow (later x up follow)).asked ≡ asked
-    → (seen (started o) (take 3 follow) (later x up follow)).pending ≡ Request
+    → numbers (answers_after x up follow) ≡ 6 ∷ 1 ∷ 0 ∷ 0 ∷ 8 ∷ 0 ∷ 0 ∷ []
+    → only_onward follow (answers_after x up follow) ≡ true
+    → (seen (started o) follow (answers_after x up follow)).asked ≡ asked
+    → (seen (started o) (take 3 follow) (answers_after x up follow)).pending ≡ Request
     → in_time (answers_from (started o) device3) ≡ true
-    → StartInstance head (bytes_of up) got c t asked
+    → StartInstance head (all_bytes up) got c t asked
 row x head conf is up o c t got asked w ne n up_numbers numbers onward asks late time = record {
   settings = x;
   configured = conf;
@@ -150,7 +152,7 @@ abbrev at4 : Settings
 at4 = settings_at (lamp_bytes 4)
 
 pub start_instances : StartInstances
-unfolding answered begin_fade command_tests_of continues coupled_by coupled_on_off current_level_due event_of event_read executes fade_answered fade_asking fade_coupling fade_ended fade_from fade_goes_on fade_period fade_stored fade_told fade_waiting fade_woken first_cause go_to is_transition_start kind_read level_due level_or level_tests level_to_restore move_to_level_tests move_to_level_transition moved_to_level new_state next next_level number_of off_time on_answered on_goes_on on_start on_time outcomes_of rate_in_force recalled record_outcome remaining_after remaining_time_due reports_of restored run same_level scaled_floor scene_tests set_level settings_read should_continue start_of step_level step_overflows step_tests step_time stepped stepped_level stepped_time switched target_level time_or time_refused told_level turn_tests turned_off turned_on wait_or_ask woken write_remaining_time
+unfolding answered begin_fade command_tests_of continues coupled_by coupled_on_off current_level_due event_of event_read executes fade_answered fade_asking fade_coupling fade_ended fade_from fade_goes_on fade_period fade_stored fade_told fade_waiting fade_woken first_cause go_to is_transition_start kind_read level_due level_or level_tests level_to_put_back move_to_level_tests move_to_level_transition moved_to_level new_state next next_level number_of off_time on_answered on_goes_on on_start on_time outcomes_of rate_in_force recalled record_outcome remaining_after remaining_time_due reports_of ended_put_back run same_level scaled_floor scene_tests set_level settings_read should_continue start_of step_level step_overflows step_tests step_time stepped stepped_level stepped_time switched target_level time_or time_refused told_level turn_tests turned_off turned_on wait_or_ask woken write_remaining_time
 start_instances =
     let ten : Configured at10 = record { head = held (lamp_bytes 10) refl; read = refl } in
     let four : Configured at4 = record { head = held (lamp_bytes 4) refl; read = refl } in

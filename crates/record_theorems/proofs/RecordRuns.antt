@@ -7,16 +7,16 @@ use mathlib.Core.List.{List, [], ◌∷◌, ◌++◌, append-nil}
 use lib.ListN.{length, drop}
 use Rattle.transitions.specs.declared.events.Event.{Event}
 use Rattle.transitions.specs.declared.events.EventKind.TheVariants as kind
-use Rattle.records.specs.Events.{event_read}
+use Rattle.records.specs.EventRecord.{event_read}
 use Rattle.level_control.specs.Answer.{Outcome, refused}
 use Rattle.level_control.specs.EveryFade as fade
-use Rattle.level_control.specs.Events.{event_of}
+use Rattle.level_control.specs.Handle.{event_of}
 use Rattle.level_control.specs.Run as run
 use Rattle.level_control.specs.Run.{Run, next_by, next, play}
 use Rattle.level_control.specs.declared.state.LevelControlState.{LevelControlState}
 use Rattle.level_theorems.proofs.Progress.{next_state_is}
 use Rattle.sheet.specs.Lines.{read_outcome, record_outcome, outcomes_of}
-use Rattle.record_theorems.specs.RecordPlays.{Record, bytes_of, answers_of, answer_to, state_after, accepts, kind_seen, onward_read, seen, only_onward, all_refused, StartsAt, directly, after_on}
+use Rattle.record_theorems.specs.RecordPlays.{Record, all_bytes, answers_of, answer_to, state_after, accepts, kind_seen, onward_read, seen, only_onward, all_refused, StartsAt, directly, after_on}
 
 -- the events that records are read as; damaged ones are left out
 
@@ -35,12 +35,12 @@ damaged r =
 
 seen_goes_on : (bs : List Record) → ((r : Run) → seen r bs (answers_of r.state bs) ≡ play r (events_of bs)) → (r : Run) (x : Option Event)
     → seen (next_by (accepts (read_outcome r.state x)) (read_outcome r.state x) (kind_seen x) r) bs
-    (outcomes_of (read_outcome r.state x).state (bytes_of bs))
+    (outcomes_of (read_outcome r.state x).state (all_bytes bs))
     ≡ play r (event_in x (events_of bs))
 unfolding next
 seen_goes_on bs same r (Some e) =
-    ap (λ (s : LevelControlState). seen (next r e) bs (outcomes_of s (bytes_of bs))) (sym (next_state_is r e)) ∙ same (next r e)
-seen_goes_on bs same r None = ap (λ (x : Run). seen x bs (outcomes_of r.state (bytes_of bs))) (damaged r) ∙ same r
+    ap (λ (s : LevelControlState). seen (next r e) bs (outcomes_of s (all_bytes bs))) (sym (next_state_is r e)) ∙ same (next r e)
+seen_goes_on bs same r None = ap (λ (x : Run). seen x bs (outcomes_of r.state (all_bytes bs))) (damaged r) ∙ same r
 
 pub seen_is_play : (bs : List Record) (r : Run) → seen r bs (answers_of r.state bs) ≡ play r (events_of bs)
 unfolding outcomes_of record_outcome
@@ -48,11 +48,11 @@ seen_is_play [] r = refl
 seen_is_play (b ∷ bs) r = seen_goes_on bs (seen_is_play bs) r (event_read b.bytes)
 
 onward_goes_on : (bs : List Record) → ((r : Run) → only_onward bs (answers_of r.state bs) ≡ run.only_onward r (events_of bs)) → (r : Run) (x : Option Event)
-    → ((not (accepts (read_outcome r.state x)) || onward_read x) && only_onward bs (outcomes_of (read_outcome r.state x).state (bytes_of bs)))
+    → ((not (accepts (read_outcome r.state x)) || onward_read x) && only_onward bs (outcomes_of (read_outcome r.state x).state (all_bytes bs)))
     ≡ run.only_onward r (event_in x (events_of bs))
 onward_goes_on bs same r (Some e) =
     ap (λ (y : Bool). (not (accepts (event_of r.state e)) || run.is_onward e.kind) && y)
-    (ap (λ (s : LevelControlState). only_onward bs (outcomes_of s (bytes_of bs))) (sym (next_state_is r e)) ∙ same (next r e))
+    (ap (λ (s : LevelControlState). only_onward bs (outcomes_of s (all_bytes bs))) (sym (next_state_is r e)) ∙ same (next r e))
 onward_goes_on bs same r None = same r
 
 pub onward_is : (bs : List Record) (r : Run) → only_onward bs (answers_of r.state bs) ≡ run.only_onward r (events_of bs)
@@ -62,7 +62,7 @@ onward_is (b ∷ bs) r = onward_goes_on bs (onward_is bs) r (event_read b.bytes)
 
 refused_goes_on : (bs : List Record) → ((s : LevelControlState) → all_refused (answers_of s bs) ≡ run.all_refused s (events_of bs))
     → (s : LevelControlState) (x : Option Event)
-    → (not (accepts (read_outcome s x)) && all_refused (outcomes_of (read_outcome s x).state (bytes_of bs))) ≡ run.all_refused s (event_in x (events_of bs))
+    → (not (accepts (read_outcome s x)) && all_refused (outcomes_of (read_outcome s x).state (all_bytes bs))) ≡ run.all_refused s (event_in x (events_of bs))
 refused_goes_on bs same s (Some e) = ap (λ (y : Bool). not (accepts (event_of s e)) && y) (same (event_of s e).state)
 refused_goes_on bs same s None = same s
 

@@ -10,7 +10,7 @@ use Rattle.transitions.specs.Events.{event}
 use Rattle.transitions.specs.declared.events.Event.{Event}
 use Rattle.transitions.specs.declared.events.EventKind.TheVariants as kind
 use Rattle.transitions.specs.declared.settings.Settings.{Settings}
-use Rattle.records.specs.Events.{event_read}
+use Rattle.records.specs.EventRecord.{event_read}
 use Rattle.records.specs.Laws.{AllBytes}
 use Rattle.records.specs.Written.{event_record, EventFits}
 use Rattle.records.proofs.WrittenLaws.{event_written}
@@ -29,8 +29,8 @@ use Rattle.level_theorems.proofs.WaitsEnd.{waits_end}
 use Rattle.sheet.specs.Lines as lines
 use Rattle.sheet.specs.Lines.{read_outcome, record_outcome, outcomes_of, lines_from, text_of}
 use Rattle.sheet.proofs.LawsHold.{sheet_laws}
-use Rattle.record_theorems.specs.RecordPlays.{Record, bytes_of, answers_of, answer_to, accepts, seen, only_onward, StartsAt}
-use Rattle.record_theorems.specs.RecordTheorems.{RecordsOf, EveryEventRecorded, later, EveryFadeRecorded, AnswerRecordsAccepted, WakeRecordsAccepted, RecordsComeToRest, RecordedWaitsEnd}
+use Rattle.record_theorems.specs.RecordPlays.{Record, all_bytes, answers_of, answer_to, accepts, seen, only_onward, StartsAt}
+use Rattle.record_theorems.specs.RecordTheorems.{RecordsOf, EveryEventRecorded, answers_after, EveryFadeRecorded, AnswerRecordsAccepted, WakeRecordsAccepted, RecordsComeToRest, RecordedWaitsEnd}
 use Rattle.record_theorems.proofs.RecordRuns.{events_of, seen_is_play, onward_is, later_is, answer_is, start_state, starts_is}
 use Rattle.record_theorems.proofs.StartFits.{recorded_fits}
 use Rattle.record_theorems.proofs.WrittenRecords.{all_take, all_drop, Written, write_answers}
@@ -42,7 +42,7 @@ abbrev cut : (k : ℕ) (s : List ℕ) → AllBytes s → List Record
 cut zero s a = []
 cut (suc k) s a = record { bytes = take 20 s; small = all_take 20 s a } ∷ cut k (drop 20 s) (all_drop 20 s a)
 
-cut_bytes : (k : ℕ) (s : List ℕ) (a : AllBytes s) → bytes_of (cut k s a) ≡ lines.records_of k s
+cut_bytes : (k : ℕ) (s : List ℕ) (a : AllBytes s) → all_bytes (cut k s a) ≡ lines.records_of k s
 unfolding lines.records_of
 cut_bytes zero s a = refl
 cut_bytes (suc k) s a = ap (λ (l : List (List ℕ)). take 20 s ∷ l) (cut_bytes k (drop 20 s) (all_drop 20 s a))
@@ -92,7 +92,7 @@ every_event_recorded = record {
 
 -- the answers after the start are those in the state that it left
 after_start : (x : Settings) (up after : List Record) (o : Outcome) (c t T : ℕ) → StartsAt (new_state x) up o c t T
-    → later x up after ≡ answers_of o.state after
+    → answers_after x up after ≡ answers_of o.state after
 after_start x up after o c t T w =
     later_is up after (new_state x) ∙ ap (λ (s : LevelControlState). answers_of s after) (start_state (new_state x) up o c t T w)
 
@@ -125,7 +125,7 @@ records_come_to_rest x up o c t T ps conf w ne pos n bytes time =
     comes_to_rest o c t T ps (starts_is (new_state x) up o c t T w) ne pos (recorded_fits x up o c t T conf w) n time in
     let made : Written (answers_from (started o) ps) = write_answers ps (started o) bytes time in
     let same = after_start x up made.records o c t T w in
-    let played : seen (started o) made.records (later x up made.records) ≡ play (started o) (answers_from (started o) ps) =
+    let played : seen (started o) made.records (answers_after x up made.records) ≡ play (started o) (answers_from (started o) ps) =
     ap (λ (os : List Outcome). seen (started o) made.records os) same ∙ seen_is_play made.records (started o)
     ∙ ap (λ (es : List Event). play (started o) es) made.read in
     record {

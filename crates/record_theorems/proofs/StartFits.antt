@@ -20,13 +20,13 @@ use Rattle.transitions.specs.declared.settings.Attributes.{Attributes}
 use Rattle.transitions.specs.declared.settings.Settings.{Settings}
 use Rattle.transitions.specs.Types.{Level}
 use Rattle.transitions.specs.Types.{Time}
-use Rattle.records.specs.Events.{event_read}
+use Rattle.records.specs.EventRecord.{event_read}
 use Rattle.records.specs.Written.{TimeFits, KindFits}
 use Rattle.records.proofs.FitLaws.{event_fits, settings_fit}
 use Rattle.level_control.specs.Answer.{Outcome}
-use Rattle.level_control.specs.Causes.{command_tests_of, step_tests, step_overflows, overflows_from}
-use Rattle.level_control.specs.Events.{event_of, number_of}
-use Rattle.level_control.specs.Reports.{continues}
+use Rattle.level_control.specs.Judge.{command_tests_of, step_tests, step_overflows, overflows_from}
+use Rattle.level_control.specs.Handle.{event_of, number_of}
+use Rattle.level_control.specs.Judge.{continues}
 use Rattle.level_control.specs.Starts.{Fades, start_from, target, passes, given_or, step_to, distance, step_in, step_start, scene_start, start_of, on_start_at, on_start}
 use Rattle.level_control.specs.State.{new_state}
 use Rattle.level_control.specs.Targets.{stepped_level, stepped_time}

@@ -21,12 +21,12 @@ use Rattle.records.specs.Written.{bit, kind_number, named, event_record, KindFit
 use Rattle.records.specs.Written as written
 use Rattle.records.proofs.LayoutLaws.{◌also◌}
 use Rattle.records.proofs.WrittenLaws.{event_written}
-use Rattle.level_control.specs.Causes.{latest}
+use Rattle.level_control.specs.Judge.{latest}
 use Rattle.level_control.specs.Run.{Run, next, play}
 use Rattle.level_control.specs.declared.state.LevelControlState.{LevelControlState}
 use Rattle.level_theorems.specs.Replies.{Reply, wake_in, wake_of, wakes, replies, answers_from, in_time}
-use Rattle.record_theorems.specs.RecordPlays.{Record, bytes_of}
-use Rattle.record_theorems.specs.RecordTheorems.{records_of, ByteReplies}
+use Rattle.record_theorems.specs.RecordPlays.{Record, all_bytes}
+use Rattle.record_theorems.specs.RecordTheorems.{written_records, ByteReplies}
 use Rattle.record_theorems.proofs.RecordRuns.{event_in, events_of}
 
 -- Lists of bytes.
@@ -91,7 +91,7 @@ record_bytes e p =
 -- events as records, from which they are read again
 pub record Written (es : List Event) : Type 0 where
   pub records : List Record
-  pub bytes : bytes_of records ≡ records_of es
+  pub bytes : all_bytes records ≡ written_records es
   pub read : events_of records ≡ es
 
 write : (es : List Event) → AllPlain es → in_time es ≡ true → Written es

@@ -1,4 +1,4 @@
--- The theorems over records are not empty: the small play of Sheet, as bytes, with a damaged record added; and a play for each of the five starts.
+-- The theorems over records are not empty: the small play of docs/RULES.md, as bytes, with a damaged record added; and a play for each of the five starts.
 use Rattle.std.specs.Prelude.{ℕ, ◌/◌, ◌%◌, true, ◌≡◌, List, [], ◌∷◌, ◌++◌, replicate, take}
 use Rattle.transitions.specs.declared.settings.Settings.{Settings}
 use Rattle.level_control.specs.Answer.{Outcome}
@@ -7,8 +7,8 @@ use Rattle.level_control.specs.Run.{Request, started}
 use Rattle.level_control.specs.State.{new_state}
 use Rattle.level_theorems.specs.Instances.{device3}
 use Rattle.level_theorems.specs.Replies.{answers_from}
-use Rattle.record_theorems.specs.RecordPlays.{Record, bytes_of, answers_of, seen, only_onward, StartsAt}
-use Rattle.record_theorems.specs.RecordTheorems.{Configured, EndsRecorded, later}
+use Rattle.record_theorems.specs.RecordPlays.{Record, all_bytes, answers_of, seen, only_onward, StartsAt}
+use Rattle.record_theorems.specs.RecordTheorems.{Configured, EndsRecorded, answers_after}
 
 -- settings: MIN 1, MAX 254, uncoupled, level 10
 abbrev pub settings_bytes : List ℕ
@@ -43,16 +43,16 @@ pub record Instance : Type 0 where
   pub configured : Configured settings
   pub settings_have_bytes : configured.head.bytes ≡ settings_bytes
   pub up : List Record
-  pub up_bytes : bytes_of up ≡ start_bytes ∷ []
+  pub up_bytes : all_bytes up ≡ start_bytes ∷ []
   pub after : List Record
-  pub after_has_bytes : bytes_of after ≡ after_bytes
+  pub after_has_bytes : all_bytes after ≡ after_bytes
   pub first : Outcome
   pub starts : StartsAt (new_state settings) up first 10 13 3
   -- 1: damaged; 8: a wake is early
-  pub answered : numbers (later settings up after) ≡ 1 ∷ 0 ∷ 0 ∷ 0 ∷ 8 ∷ 0 ∷ 0 ∷ []
-  pub onward : only_onward after (later settings up after) ≡ true
-  pub shown : Shown 10 13 3 (seen (started first) after (later settings up after))
-  pub all_answered : (seen (started first) after (later settings up after)).answers ≡ 3
+  pub answered : numbers (answers_after settings up after) ≡ 1 ∷ 0 ∷ 0 ∷ 0 ∷ 8 ∷ 0 ∷ 0 ∷ []
+  pub onward : only_onward after (answers_after settings up after) ≡ true
+  pub shown : Shown 10 13 3 (seen (started first) after (answers_after settings up after))
+  pub all_answered : (seen (started first) after (answers_after settings up after)).answers ≡ 3
 
 -- The five starts: a fade over 3 levels in 3 tenths, so of period 100,000 µs, whose first request is made at 2,000,000.
 
@@ -108,19 +108,19 @@ pub record StartInstance (settings_are : List ℕ) (up_are : List (List ℕ)) (u
   pub configured : Configured settings
   pub settings_have_bytes : configured.head.bytes ≡ settings_are
   pub up : List Record
-  pub up_has_bytes : bytes_of up ≡ up_are
+  pub up_has_bytes : all_bytes up ≡ up_are
   pub up_answered : numbers (answers_of (new_state settings) up) ≡ up_numbers
   pub first : Outcome
   pub starts : StartsAt (new_state settings) up first c t 3
   pub after : List Record
-  pub after_has_bytes : bytes_of after ≡ follows
+  pub after_has_bytes : all_bytes after ≡ follows
   -- 6: an answer is open; 1: damaged; 8: a wake is early
-  pub answered : numbers (later settings up after) ≡ 6 ∷ 1 ∷ 0 ∷ 0 ∷ 8 ∷ 0 ∷ 0 ∷ []
-  pub onward : only_onward after (later settings up after) ≡ true
-  pub shown : Shown c t 3 (seen (started first) after (later settings up after))
-  pub asks : (seen (started first) after (later settings up after)).asked ≡ asked
+  pub answered : numbers (answers_after settings up after) ≡ 6 ∷ 1 ∷ 0 ∷ 0 ∷ 8 ∷ 0 ∷ 0 ∷ []
+  pub onward : only_onward after (answers_after settings up after) ≡ true
+  pub shown : Shown c t 3 (seen (started first) after (answers_after settings up after))
+  pub asks : (seen (started first) after (answers_after settings up after)).asked ≡ asked
   -- after the late answer the next request is made at once
-  pub late : (seen (started first) (take 3 after) (later settings up after)).pending ≡ Request
+  pub late : (seen (started first) (take 3 after) (answers_after settings up after)).pending ≡ Request
   -- and a device that comes to the end with every fade
   pub ends : EndsRecorded settings up first c t (answers_from (started first) device3)
 

@@ -4,7 +4,7 @@ use Rattle.transitions.specs.declared.events.DeviceAnswer.TheVariants as device
 use Rattle.transitions.specs.declared.events.Event.{Event}
 use Rattle.transitions.specs.declared.events.EventKind.{EventKind}
 use Rattle.transitions.specs.declared.events.EventKind.TheVariants as kind
-use Rattle.records.specs.Events.{event_read}
+use Rattle.records.specs.EventRecord.{event_read}
 use Rattle.records.specs.Laws.{AllBytes}
 use Rattle.level_control.specs.Answer.{Outcome}
 use Rattle.level_control.specs.Run.{Run, next_by, is_onward}
@@ -18,13 +18,13 @@ pub record Record : Type 0 where
   pub bytes : List ℕ
   pub small : AllBytes bytes
 
-abbrev pub bytes_of : List Record → List (List ℕ)
-bytes_of [] = []
-bytes_of (b ∷ bs) = b.bytes ∷ bytes_of bs
+abbrev pub all_bytes : List Record → List (List ℕ)
+all_bytes [] = []
+all_bytes (b ∷ bs) = b.bytes ∷ all_bytes bs
 
 -- the answers to records from a state on: the lines of the sheet are made from them
 abbrev pub answers_of : LevelControlState → List Record → List Outcome
-answers_of s bs = outcomes_of s (bytes_of bs)
+answers_of s bs = outcomes_of s (all_bytes bs)
 
 abbrev pub answer_to : LevelControlState → Record → Outcome
 answer_to s b = record_outcome s b.bytes

@@ -8,11 +8,11 @@ use Rattle.transitions.specs.declared.events.Event.{Event}
 use Rattle.transitions.specs.declared.events.EventKind.TheVariants as kind
 use Rattle.transitions.specs.declared.settings.Settings.{Settings}
 use Rattle.transitions.specs.declared.tasks.Phase.TheVariants.{Waiting}
-use Rattle.records.specs.Events.{event_read}
-use Rattle.records.specs.Settings.{settings_read}
+use Rattle.records.specs.EventRecord.{event_read}
+use Rattle.records.specs.SettingsRecord.{settings_read}
 use Rattle.records.specs.Written.{AnswerFits, event_record}
 use Rattle.level_control.specs.Answer.{Outcome, refused}
-use Rattle.level_control.specs.Causes.{latest}
+use Rattle.level_control.specs.Judge.{latest}
 use Rattle.level_control.specs.EveryFade.{Shown}
 use Rattle.level_control.specs.Run.{Nothing, started}
 use Rattle.level_control.specs.Starts.{distance}
@@ -24,7 +24,7 @@ use Rattle.sheet.specs.Lines as lines
 use Rattle.sheet.specs.Lines.{lines_from, text_of}
 use Rattle.sheet.specs.Play.{play_of}
 use Rattle.sheet.specs.declared.refusal.PlayRefusal.{PlayRefusal}
-use Rattle.record_theorems.specs.RecordPlays.{Record, bytes_of, answers_of, answer_to, accepts, seen, only_onward, StartsAt}
+use Rattle.record_theorems.specs.RecordPlays.{Record, all_bytes, answers_of, answer_to, accepts, seen, only_onward, StartsAt}
 
 -- settings that are read from a record
 pub record Configured (x : Settings) : Type 0 where
@@ -34,7 +34,7 @@ pub record Configured (x : Settings) : Type 0 where
 -- the records of a call, 20 bytes after the other, and the text, which is made from the answers to them
 pub record RecordsOf (start : LevelControlState) (text : Record) : Type 0 where
   pub records : List Record
-  pub in_order : bytes_of records ≡ lines.records_of (length text.bytes / 20) text.bytes
+  pub in_order : all_bytes records ≡ lines.records_of (length text.bytes / 20) text.bytes
   pub each : length records ≡ length text.bytes / 20
   pub made : text_of start text.bytes ≡ lines_from 1 (answers_of start records)
 
@@ -52,15 +52,15 @@ pub record EveryEventRecorded : Type 0 where
   pub refused_call : (records out : List ℕ) (why : PlayRefusal) → (play_of records out).0 ≡ Err why → (play_of records out).1 ≡ out
 
 -- the answers to the records after the start of a fade, as they stand in the list of all answers
-abbrev pub later : Settings → List Record → List Record → List Outcome
-later x up after = drop (length up) (answers_of (new_state x) (up ++ after))
+abbrev pub answers_after : Settings → List Record → List Record → List Outcome
+answers_after x up after = drop (length up) (answers_of (new_state x) (up ++ after))
 
 -- Every fade over records: settings, records up to the start of a fade, and every list of records after it.
 abbrev pub EveryFadeRecorded : Type 0
 EveryFadeRecorded =
     (x : Settings) (up after : List Record) (o : Outcome) (c t T : ℕ)
-    → Configured x → StartsAt (new_state x) up o c t T → (c ≡ t → ⊥) → 1 ≤ T → only_onward after (later x up after) ≡ true
-    → Shown c t T (seen (started o) after (later x up after))
+    → Configured x → StartsAt (new_state x) up o c t T → (c ≡ t → ⊥) → 1 ≤ T → only_onward after (answers_after x up after) ≡ true
+    → Shown c t T (seen (started o) after (answers_after x up after))
 
 -- Progress over records: the record of an event is the one that Records gives it.
 
@@ -80,9 +80,9 @@ WakeRecordsAccepted =
     → InPhase s.task (Waiting until) → until.0 ≤ at.0 → s.last_accepted.0 ≤ at.0 → at.0 ≤ latest.0
     → accepts (answer_to s b) ≡ true
 
-abbrev pub records_of : List Event → List (List ℕ)
-records_of [] = []
-records_of (e ∷ es) = event_record e ∷ records_of es
+abbrev pub written_records : List Event → List (List ℕ)
+written_records [] = []
+written_records (e ∷ es) = event_record e ∷ written_records es
 
 -- the device answers bytes
 abbrev pub ByteReplies : List Reply → Type 0
@@ -92,10 +92,10 @@ ByteReplies (p ∷ ps) = (p.level < 2 ^ 8) × ByteReplies ps
 -- records of some events, after which a fade from c to t is at rest, all its n requests answered
 pub record EndsRecorded (x : Settings) (up : List Record) (o : Outcome) (c t : ℕ) (es : List Event) : Type 0 where
   pub after : List Record
-  pub written : bytes_of after ≡ records_of es
-  pub onward : only_onward after (later x up after) ≡ true
-  pub all_answered : (seen (started o) after (later x up after)).answers ≡ distance t c
-  pub rest : (seen (started o) after (later x up after)).pending ≡ Nothing
+  pub written : all_bytes after ≡ written_records es
+  pub onward : only_onward after (answers_after x up after) ≡ true
+  pub all_answered : (seen (started o) after (answers_after x up after)).answers ≡ distance t c
+  pub rest : (seen (started o) after (answers_after x up after)).pending ≡ Nothing
 
 -- Every fade of at least 1 tenth that records start comes to rest after the records of n answers and of the wakes between them, whatever bytes the device answers and however late,
 -- if its waits end and its answers come by 2^62 − 1.

@@ -39,7 +39,7 @@ pub fn recorded_waits_end()
     ensures { RecordedWaitsEnd }
 {}
 
-/// The claims are not empty: the small play of Sheet as bytes, with a damaged record added.
+/// The claims are not empty: the small play of docs/RULES.md as bytes, with a damaged record added.
 #[tactic(auto, using(crate::proofs::PlayedRecords::instance))]
 pub fn recorded_instance_holds()
     ensures { Instance }

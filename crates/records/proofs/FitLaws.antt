@@ -13,12 +13,12 @@ use Rattle.transitions.specs.declared.events.DeviceAnswer.TheVariants as device
 use Rattle.transitions.specs.declared.events.Event.{Event}
 use Rattle.transitions.specs.declared.settings.Settings.{Settings}
 use Rattle.records.specs.Bytes.{byte_at, tenths_at, is_set}
-use Rattle.records.specs.Settings.{settings_wrong, settings_at, settings_read}
-use Rattle.records.specs.Events.{kinds, event_read}
+use Rattle.records.specs.SettingsRecord.{settings_wrong, settings_at, settings_read}
+use Rattle.records.specs.EventRecord.{kinds, event_read}
 use Rattle.records.specs.Written.{ByteFits, TimeFits, AnswerFits, KindFits, EventFits, SettingsFit, Allowed}
 use Rattle.records.specs.Laws.{AllBytes}
 use Rattle.records.specs.declared.refusal.RecordRefusal.TheVariants.{RecordWrong, MaxAbove254, MinAboveMax, LightingMin0}
-use Rattle.records.proofs.NumberLaws.{small, below}
+use Rattle.records.proofs.ByteLaws.{small, below}
 use Rattle.records.proofs.LayoutLaws.{◌also◌}
 use Rattle.records.proofs.HeadLaws.{then_gives, map_gives, Each, each_at, parts}
 

@@ -13,7 +13,7 @@ use Rattle.transitions.specs.Events.{event}
 use Rattle.transitions.specs.declared.events.Event.{Event}
 use Rattle.transitions.specs.declared.events.EventKind.{EventKind}
 use Rattle.records.specs.Bytes.{byte_at, clock_time, is_set, is_flag, has_marks}
-use Rattle.records.specs.Events.{kinds, kind_read, event_read}
+use Rattle.records.specs.EventRecord.{kinds, kind_read, event_read}
 use Rattle.records.specs.Written.{kind_number}
 use Rattle.records.proofs.LayoutLaws.{◌also◌}
 

@@ -4,7 +4,7 @@ use mathlib.Core.Path.{◌≡◌}
 use mathlib.Core.List.{List}
 use lib.ListN.{get_or-eq_default}
 use Rattle.std.specs.Prelude.{None}
-use Rattle.records.specs.Events.{kind_read, kinds}
+use Rattle.records.specs.EventRecord.{kind_read, kinds}
 use Rattle.records.specs.Bytes.{byte_at}
 
 pub no_kind : (s : List ℕ) → 15 ≤ byte_at s 2 → kind_read s ≡ None

@@ -19,8 +19,8 @@ use Rattle.transitions.specs.declared.events.EventKind.{EventKind}
 use Rattle.transitions.specs.declared.settings.Settings.{Settings}
 use Rattle.transitions.specs.Causes.{first_cause}
 use Rattle.records.specs.Bytes.{byte_at, is_flag, zeros_from, has_marks}
-use Rattle.records.specs.Settings.{settings_wrong, settings_at, settings_read, settings_read_number}
-use Rattle.records.specs.Events.{kinds, kind_read, event_read, event_read_number}
+use Rattle.records.specs.SettingsRecord.{settings_wrong, settings_at, settings_read, settings_read_number}
+use Rattle.records.specs.EventRecord.{kinds, kind_read, event_read, event_read_number}
 use Rattle.records.specs.Layout.{Limit, Layout, layout, settings_layout, event_layouts, Within, Keeps, Marked}
 use Rattle.records.specs.Laws.{settings_causes, settings_tests}
 use Rattle.records.specs.declared.refusal.RecordRefusal.TheVariants.{RecordWrong, MaxAbove254, MinAboveMax, LightingMin0}

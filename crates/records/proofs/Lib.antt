@@ -1,4 +1,5 @@
-pub mod NumberLaws
+-- The files of lemmas, each over those before it.
+pub mod ByteLaws
 pub mod LayoutLaws
 pub mod HeadLaws
 pub mod FitLaws
@@ -6,4 +7,4 @@ pub mod MissingLaws
 pub mod WrittenLaws
 pub mod RecordLaws
 pub mod KindLaws
-pub mod ValueLaws
+pub mod ReadLaws

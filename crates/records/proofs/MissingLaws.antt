@@ -11,8 +11,8 @@ use lib.ListN.{length, drop, drop_of_length-le}
 use lib.Seq.{drop-cons}
 use Rattle.std.specs.Prelude.{None, Err}
 use Rattle.records.specs.Bytes.{byte_at}
-use Rattle.records.specs.Settings.{settings_read}
-use Rattle.records.specs.Events.{kind_read, event_read}
+use Rattle.records.specs.SettingsRecord.{settings_read}
+use Rattle.records.specs.EventRecord.{kind_read, event_read}
 use Rattle.records.specs.Layout.{MissingInEvent, TimeOfMoveToLevel, RateOfMove, TimeOfStep, LevelOfAnswer, LevelOfScene, OnLevelSet, DefaultRateSet, StartUpLevelSet, MissingInSettings, LevelUnknown, OnLevelUnknown, StartUpLevelUnknown, DefaultRateUnknown, OnTimeUnknown, OffTimeUnknown, SameBut}
 use Rattle.records.specs.declared.refusal.RecordRefusal.TheVariants.{RecordWrong}
 

@@ -1,6 +1,6 @@
 -- Records, as laws: proofs of specs/Laws.antt. Assumes nothing.
 use Rattle.records.specs.Laws.{Laws}
-use Rattle.records.proofs.NumberLaws.{low_first_bytes, below}
+use Rattle.records.proofs.ByteLaws.{low_first_bytes, below}
 use Rattle.records.proofs.LayoutLaws.{settings_right, settings_number, event_right}
 use Rattle.records.proofs.HeadLaws.{event_head}
 use Rattle.records.proofs.FitLaws.{event_fits, settings_fit}

@@ -22,8 +22,8 @@ use Rattle.transitions.specs.declared.settings.Settings.{Settings}
 use Rattle.transitions.specs.declared.types.Mode.{Mode}
 use Rattle.transitions.specs.declared.types.Mode.TheVariants.{Up, Down}
 use Rattle.transitions.specs.Types.{Time}
-use Rattle.records.specs.Settings.{settings_read}
-use Rattle.records.specs.Events.{mode_of, kind_read, event_read}
+use Rattle.records.specs.SettingsRecord.{settings_read}
+use Rattle.records.specs.EventRecord.{mode_of, kind_read, event_read}
 use Rattle.records.specs.Written.{bytes_of, bit, value_byte, time_tenths, mode_byte, TimeFits, KindFits, EventFits, SettingsFit, Allowed, event_record, settings_record}
 
 -- the number of some bytes

@@ -5,8 +5,8 @@ use Rattle.transitions.specs.Causes.{Tests, first_cause, no_command_tests, no_tu
 use Rattle.transitions.specs.declared.events.Event.{Event}
 use Rattle.transitions.specs.declared.settings.Settings.{Settings}
 use Rattle.records.specs.Bytes.{byte_at, low_first, le16, le32, le64, is_set}
-use Rattle.records.specs.Settings.{settings_wrong, settings_read, settings_read_number}
-use Rattle.records.specs.Events.{event_read, event_read_number}
+use Rattle.records.specs.SettingsRecord.{settings_wrong, settings_read, settings_read_number}
+use Rattle.records.specs.EventRecord.{event_read, event_read_number}
 use Rattle.records.specs.Layout.{layout, settings_layout, event_layouts, Keeps, Marked, MissingInEvent, MissingInSettings, SameBut}
 use Rattle.records.specs.Written.{kind_number, event_record, EventFits, settings_record, SettingsFit, Allowed}
 

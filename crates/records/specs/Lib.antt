@@ -1,6 +1,7 @@
+-- The pages of definitions, each over those before it.
 pub mod Bytes
-pub mod Settings
-pub mod Events
+pub mod SettingsRecord
+pub mod EventRecord
 pub mod Layout
 pub mod Written
 pub mod Laws

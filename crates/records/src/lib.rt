@@ -2,9 +2,9 @@
 #![tactic(auto)]
 
 mod bytes;
-pub mod events;
+pub mod event_record;
 pub mod refusal;
-pub mod settings;
+pub mod settings_record;
 
 ghost use Rattle.records.specs.Laws.{Laws};
 

@@ -1,6 +1,6 @@
 //! The causes 1 to 4.
 ghost use Rattle.std.specs.Prelude.{◌≡◌};
-ghost use Rattle.records.specs.Settings.{refusal_number};
+ghost use Rattle.records.specs.SettingsRecord.{refusal_number};
 
 /// Why a record is refused (docs/RULES.md, Causes), and the numbers.
 #[derive(Clone, Copy, Debug, PartialEq, Eq)]

@@ -15,7 +15,7 @@ use lib.Seq.{sets, sets-eq, take_at, take_all, drop_at, length-take-le}
 use Rattle.std.proofs.lemmas.Bool.{cases_lt}
 use Rattle.std.proofs.lemmas.List.{append-nil}
 use Rattle.text.specs.Text.{ascii, digits, digits_within}
-use Rattle.records.specs.Settings.{settings_read, settings_read_number}
+use Rattle.records.specs.SettingsRecord.{settings_read, settings_read_number}
 use Rattle.records.specs.declared.refusal.RecordRefusal.{RecordRefusal}
 use Rattle.records.specs.declared.refusal.RecordRefusal.TheVariants.{RecordWrong, MaxAbove254, MinAboveMax, LightingMin0}
 use Rattle.transitions.specs.declared.settings.Settings.{Settings}

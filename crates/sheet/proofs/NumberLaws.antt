@@ -10,7 +10,7 @@ use lib.ListN.{length, take, drop}
 use Rattle.transitions.specs.Causes.{Tests, first_cause, no_command_tests, no_turn_tests}
 use Rattle.transitions.specs.declared.settings.Settings.{Settings}
 use Rattle.records.specs.Bytes.{byte_at}
-use Rattle.records.specs.Settings.{settings_read, settings_read_number, settings_wrong, refusal_number}
+use Rattle.records.specs.SettingsRecord.{settings_read, settings_read_number, settings_wrong, refusal_number}
 use Rattle.records.specs.declared.refusal.RecordRefusal.{RecordRefusal}
 use Rattle.records.specs.declared.refusal.RecordRefusal.TheVariants.{RecordWrong, MaxAbove254, MinAboveMax, LightingMin0}
 use Rattle.records.specs.Laws.{settings_causes}

@@ -1,7 +1,7 @@
 -- The sheet in the words of docs/RULES.md (Sheet, Causes): laws for every list of bytes, by which the definitions of this folder can be believed.
 use Rattle.std.specs.Prelude.{ℕ, ◌+◌, ◌/◌, ◌%◌, ◌≤◌, ◌<◌, true, false, ◌≡◌, ◌↔◌, ◌⊎◌, List, [], ◌∷◌, ◌++◌, pos, negsuc, length, take, drop, Ok, Err}
 use Rattle.text.specs.Text.{ascii, digits}
-use Rattle.records.specs.Settings.{settings_read, settings_read_number}
+use Rattle.records.specs.SettingsRecord.{settings_read, settings_read_number}
 use Rattle.records.specs.declared.refusal.RecordRefusal.TheVariants.{RecordWrong, MaxAbove254, MinAboveMax, LightingMin0}
 use Rattle.transitions.specs.declared.settings.Settings.{Settings}
 use Rattle.level_control.specs.Answer.{Outcome}

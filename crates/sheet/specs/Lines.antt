@@ -1,14 +1,14 @@
 -- Sheet: the text of a play, a line for each 20 bytes after the settings.
 use Rattle.std.specs.Prelude.{ℕ, zero, suc, ◌+◌, ◌/◌, List, [], ◌∷◌, ◌++◌, length, take, drop, Option, Some, None, Result, Ok, Err}
 use Rattle.text.specs.Line.{line_of}
-use Rattle.records.specs.Events.{event_read}
+use Rattle.records.specs.EventRecord.{event_read}
 use Rattle.sheet.specs.declared.refusal.EventRefusal.{EventRefusal}
 use Rattle.sheet.specs.declared.refusal.EventRefusal.TheVariants as event
 use Rattle.transitions.specs.Causes.{refusal_number}
 use Rattle.transitions.specs.declared.actions.Action.{Action}
 use Rattle.transitions.specs.declared.events.Event.{Event}
 use Rattle.level_control.specs.Answer.{Outcome, refused}
-use Rattle.level_control.specs.Events.{event_of}
+use Rattle.level_control.specs.Handle.{event_of}
 use Rattle.level_control.specs.declared.state.LevelControlState.{LevelControlState}
 
 -- what a record's event gives, by its parts

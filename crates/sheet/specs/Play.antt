@@ -3,8 +3,8 @@ use Rattle.std.specs.Prelude.{ℕ, ◌-◌, ◌%◌, min, Bool, false, cond, not
 use Rattle.std.proofs.lemmas.List.Edits.{sets}
 use Rattle.text.specs.Text.{ascii, digits, most}
 use Rattle.records.specs.Bytes.{byte_at, is_set}
-use Rattle.records.specs.Settings.{settings_read, settings_wrong}
-use Rattle.records.specs.Settings.{refusal_number}
+use Rattle.records.specs.SettingsRecord.{settings_read, settings_wrong}
+use Rattle.records.specs.SettingsRecord.{refusal_number}
 use Rattle.records.specs.declared.refusal.RecordRefusal.{RecordRefusal}
 use Rattle.records.specs.declared.refusal.RecordRefusal.TheVariants.{RecordWrong}
 use Rattle.transitions.specs.Causes.{Tests, no_command_tests, no_turn_tests}

@@ -5,7 +5,8 @@ ghost use Rattle.sheet.specs.Play.{key_of};
 use crate::play::{ROOM, play};
 use text::line::Line;
 
-/// The text, or `0 `, the number of the refusal and a line feed, at the front of out, as far as out reaches; and how long it is.
+/// The text, or `0 `, the number of the refusal and a line feed, at the front of out, and how long it is. Where out is shorter
+/// than that line, as much of it as fits stands there; the length is that of the whole.
 #[tactic(auto, using(crate::proofs::SheetLaws::front_set), unfolding(crate::specs::Play::key_of, crate::specs::Play::shown, crate::specs::Play::refusal_text))]
 pub fn key_sheet(records: &[u8], out: &mut [u8]) -> usize
     ensures out_after { (result, out.new) ≡ key_of records.now out.old }

@@ -8,7 +8,7 @@ ghost use Rattle.sheet.specs.Lines.{outcome, record_number, record_outcome, text
 use crate::refusal::{EventRefusal, PlayRefusal};
 use level_control::state::LevelControlState;
 use records::RECORD;
-use records::events::read_event;
+use records::event_record::read_event;
 use text::line::{LONGEST, Line};
 use transitions::actions::Actions;
 use transitions::settings::Settings;
@@ -64,10 +64,10 @@ fn put_each(events: &[u8], settings: &Settings, out: &mut [u8]) -> usize
     ensures upper_bound { result ≤ LONGEST * (length events.now / RECORD) }
 {
     let mut line = Line::new();
-    let mut actions = Actions::new();
     let mut state = LevelControlState::new(*settings);
     let mut at = 0;
     for (index, record) in (1..).zip(events.chunks_exact(RECORD)) {
+        let mut actions = Actions::new();
         let answer = record_event(&mut state, record, &mut actions);
         line.write(
             index,

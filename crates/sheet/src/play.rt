@@ -7,7 +7,7 @@ use crate::lines::fit;
 use crate::refusal::PlayRefusal;
 use records::RECORD;
 use records::refusal::RecordRefusal;
-use records::settings::read_settings;
+use records::settings_record::read_settings;
 use text::line::LONGEST;
 
 /// Room for every sheet: a play has at most 255 events.

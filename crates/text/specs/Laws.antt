@@ -4,7 +4,7 @@ use Prim.Native.Char.{code}
 use Rattle.std.specs.Fmt.{decimal}
 use Rattle.units.specs.Units.{tenths}
 use Rattle.units.specs.declared.Tenths.{Tenths}
-use Rattle.transitions.specs.Events.{act}
+use Rattle.transitions.specs.Actions.{act}
 use Rattle.transitions.specs.declared.actions.Action.{Action}
 use Rattle.transitions.specs.declared.actions.ActionKind.TheVariants.{P, S, C, D, L, R, W, E, K, X}
 use Rattle.text.specs.Text.{ascii, most, Wrote, digits, put_whole}
@@ -31,13 +31,13 @@ abbrev pub Printable : ℕ → Type 0
 Printable b = (code " " ≤ b) × (b ≤ code "~")
 
 -- a text cut at every space
-abbrev pub before : ℕ → List (List ℕ) → List (List ℕ)
-before b [] = (b ∷ []) ∷ []
-before b (w ∷ ws) = (b ∷ w) ∷ ws
+abbrev pub put_before : ℕ → List (List ℕ) → List (List ℕ)
+put_before b [] = (b ∷ []) ∷ []
+put_before b (w ∷ ws) = (b ∷ w) ∷ ws
 
 abbrev pub split : List ℕ → List (List ℕ)
 split [] = [] ∷ []
-split (b ∷ s) = cond (eqb b (code " ")) ([] ∷ split s) (before b (split s))
+split (b ∷ s) = cond (eqb b (code " ")) ([] ∷ split s) (put_before b (split s))
 
 -- the letter, and the value where one is shown
 abbrev pub action_word : Action → List ℕ

@@ -67,7 +67,7 @@ impl Line {
         self.end();
     }
 
-    /// The line of a refused play, in place of what stood here: 0 and the number of its refusal.
+    /// The line of a refused play, in place of what stood here: 0 and the number of its refusal, also one that no play has.
     #[tactic(auto, using(crate::proofs::LineLaws::numbers))]
     pub fn write_refusal(&mut self, number: u8)
         ensures { self.new ≡ refusal_line number }

@@ -22,11 +22,11 @@ use Rattle.transitions.specs.RemainingTime.{remaining_time_due}
 use Rattle.transitions.specs.Options.{should_continue}
 use Rattle.transitions.specs.CurrentLevel.{current_level_due}
 use Rattle.transitions.specs.Coupling.{coupled_on_off, coupled_values}
-use Rattle.transitions.specs.Events.{act, act_coupled}
+use Rattle.transitions.specs.Actions.{act, act_coupled}
 use Rattle.transitions.specs.Commands.{target_level, step_time, step_time_number, rate_in_force, move_rate_number}
 use Rattle.transitions.specs.Fade.{remaining_after, next_level, wait_or_ask}
 use Rattle.transitions.specs.Fade as fade
-use Rattle.transitions.specs.Moves.{move_period}
+use Rattle.transitions.specs.MovePeriod.{move_period}
 use Rattle.transitions.specs.Scene.{Pair, pairs, decides, scene_level}
 use Rattle.transitions.specs.Causes.{Row, rows, first_cause}
 use Rattle.transitions.specs.Laws.{Laws}
@@ -436,7 +436,7 @@ rule_laws = record {
   move_passes = task.move_passes;
   move_end = task.move_end;
   at_limit_means = task.at_limit_means;
-  stored_back_means = task.stored_back_means;
+  put_back_means = task.put_back_means;
   scene_known = scene_known;
   scene_missing = scene_missing;
   scene_at = scene.scene_at;

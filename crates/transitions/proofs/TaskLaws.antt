@@ -17,7 +17,7 @@ use Rattle.units.specs.declared.Tenths.{Tenths}
 use Rattle.units.specs.declared.Millis.{Millis}
 use Rattle.units.specs.declared.Micros.{Micros}
 use Rattle.transitions.specs.Fade.{fade_period, is_transition_start, next_level}
-use Rattle.transitions.specs.Tasks.{phase_open, phase_due, open_in, due_in, task_open, task_due, open_request, due_wait, after_fade, fade_from, begin_fade, begin_number, begin_requests, level_to_restore, next_move, move_step_number, move_step_requests, is_move_end, at_limit}
+use Rattle.transitions.specs.Tasks.{phase_open, phase_due, open_in, due_in, task_open, task_due, open_request, due_wait, kept_to_put_back, fade_from, begin_fade, begin_number, begin_requests, level_to_put_back, next_move, move_step_number, move_step_requests, is_move_end, at_limit}
 use Rattle.transitions.specs.Laws.{BeginsAt}
 use Rattle.transitions.specs.Types.{Level}
 use Rattle.transitions.specs.declared.types.Mode.{Mode}
@@ -139,9 +139,9 @@ module _ (r : FadeRequest) (now : Micros) where
       )
   begin_asks None asked = (λ h. absurd (none_is_not_one asked h), λ h. absurd (none-some h.0 h.1))
 
-  puts_back : (b : Bool) (c before : ℕ) → (after_fade b c ≡ Some before) ↔ ((b ≡ true) × (before ≡ c))
-  puts_back true c before = (λ e. (refl, cc), λ h. ap Some (sym h.1))
-  puts_back false c before = (λ e. absurd (let z : ◌≡◌ {A = ℕ} 0 1 = cc in omega arith), λ h. absurd (false≢true h.0))
+  puts_back_exactly : (b : Bool) (c before : ℕ) → (kept_to_put_back b c ≡ Some before) ↔ ((b ≡ true) × (before ≡ c))
+  puts_back_exactly true c before = (λ e. (refl, cc), λ h. ap Some (sym h.1))
+  puts_back_exactly false c before = (λ e. absurd (let z : ◌≡◌ {A = ℕ} 0 1 = cc in omega arith), λ h. absurd (false≢true h.0))
 
   begins : (c : ℕ) → (c ≡ r.target → ⊥) → BeginsAt c r now (fade_from c r now)
   unfolding fade_from
@@ -152,7 +152,7 @@ module _ (r : FadeRequest) (now : Micros) where
     its_time = refl;
     remains = omega arith;
     rounds_down = fade_period_rounds r.transition_time (apart r.target c) (omega arith);
-    restores = puts_back r.restores c;
+    puts_back = puts_back_exactly r.puts_back c;
     asked_now = refl;
   }
 
@@ -248,15 +248,15 @@ at_limit_means None Down lo hi = (
 
 -- Reactions
 
-pub stored_back_means : (after : Option ℕ) (on_level : Level) (before : ℕ)
-    → (level_to_restore after on_level ≡ Some before) ↔ ((after ≡ Some before) × (on_level ≡ None))
-unfolding level_to_restore
-stored_back_means None on_level before = (
+pub put_back_means : (put_back : Option ℕ) (on_level : Level) (before : ℕ)
+    → (level_to_put_back put_back on_level ≡ Some before) ↔ ((put_back ≡ Some before) × (on_level ≡ None))
+unfolding level_to_put_back
+put_back_means None on_level before = (
   λ e. absurd (none-some before e),
   λ h. absurd (let e = h.0 in let z : ◌≡◌ {A = ℕ} 0 1 = cc in omega arith),
 )
-stored_back_means (Some b) (Some c) before = (λ e. absurd (none-some before e), λ h. absurd (none-some c (sym h.1)))
-stored_back_means (Some b) None before = (
+put_back_means (Some b) (Some c) before = (λ e. absurd (none-some before e), λ h. absurd (none-some c (sym h.1)))
+put_back_means (Some b) None before = (
   λ e. (ap Some (same_Some b before e), refl),
   λ h. ap Some (let e = h.0 in let same : b ≡ before = cc in same),
 )

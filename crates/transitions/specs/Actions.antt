@@ -1,9 +1,24 @@
 -- Events and answers: the actions of an answer, and what is told of a state.
-use Rattle.std.specs.Prelude.{Bool, false, cond, Option, Some, None, List, ◌++◌, take}
-use Rattle.transitions.specs.Events.{act, act_if, act_coupled}
+use Rattle.std.specs.Prelude.{ℕ, Bool, false, cond, Option, Some, None, List, [], ◌∷◌, ◌++◌, take}
 use Rattle.transitions.specs.declared.actions.Action.{Action}
 use Rattle.transitions.specs.declared.actions.ActionKind.{ActionKind}
 use Rattle.transitions.specs.declared.actions.ActionKind.TheVariants.{P, S, C, L, R}
+
+abbrev pub action : ActionKind → ℕ → Action
+action k v = record { kind = k; value = v }
+
+-- one action
+abbrev pub act : ActionKind → ℕ → List Action
+act k v = action k v ∷ []
+
+-- one action with no value, where a test holds
+abbrev pub act_if : Bool → ActionKind → List Action
+act_if test k = cond test (act k 0) []
+
+-- C, where it is sent
+abbrev pub act_coupled : Option Bool → List Action
+act_coupled (Some wanted) = act C (cond wanted 1 0)
+act_coupled None = []
 
 -- a list holds seven actions, and drops what comes after
 abbrev pub held : List Action → List Action

@@ -8,7 +8,7 @@ use Rattle.units.specs.declared.Millis.{Millis}
 use Rattle.units.specs.declared.Micros.{Micros}
 use Rattle.transitions.specs.Search.{NoneOf, First}
 use Rattle.transitions.specs.Types.{executes_if_off, rate_or, same_level, is_within, is_outside, is_zero_rate}
-use Rattle.transitions.specs.Events.{act, act_coupled}
+use Rattle.transitions.specs.Actions.{act, act_coupled}
 use Rattle.transitions.specs.RemainingTime.{remaining_time_due}
 use Rattle.transitions.specs.Options.{should_continue}
 use Rattle.transitions.specs.CurrentLevel.{current_level_due}
@@ -16,8 +16,8 @@ use Rattle.transitions.specs.Coupling.{coupled_on_off, coupled_values}
 use Rattle.transitions.specs.Commands.{target_level, consults_options, step_level, step_time, step_time_number, rate_in_force, move_rate_number}
 use Rattle.transitions.specs.Fade.{fade_period, is_transition_start, remaining_after, next_level, wait_or_ask}
 use Rattle.transitions.specs.Fade as fade
-use Rattle.transitions.specs.Tasks.{task_open, task_due, open_request, due_wait, begin_fade, begin_number, begin_requests, level_to_restore, next_move, move_step_number, move_step_requests, is_move_end, at_limit}
-use Rattle.transitions.specs.Moves.{move_period}
+use Rattle.transitions.specs.Tasks.{task_open, task_due, open_request, due_wait, begin_fade, begin_number, begin_requests, level_to_put_back, next_move, move_step_number, move_step_requests, is_move_end, at_limit}
+use Rattle.transitions.specs.MovePeriod.{move_period}
 use Rattle.transitions.specs.Scene.{Pair, pairs, decides, scene_level}
 use Rattle.transitions.specs.Causes.{Row, rows, first_cause}
 use Rattle.transitions.specs.Types.{Level}
@@ -48,8 +48,8 @@ pub record BeginsAt (c : ℕ) (r : FadeRequest) (now : Micros) (f : Fade) : Type
   pub remains : f.remaining.0 ≡ 100 * r.transition_time.0
   pub rounds_down : let n = apart r.target c in
       (n * f.period.0 ≤ 100 * r.transition_time.0) × (100 * r.transition_time.0 < n * (f.period.0 + 1))
-  -- what it puts back afterwards is c, exactly if it is to restore
-  pub restores : (before : ℕ) → (f.after ≡ Some before) ↔ ((r.restores ≡ true) × (before ≡ c))
+  -- what it puts back afterwards is c, exactly if it is to put a level back
+  pub puts_back : (before : ℕ) → (f.put_back ≡ Some before) ↔ ((r.puts_back ≡ true) × (before ≡ c))
   -- its request is open since now
   pub asked_now : f.phase ≡ Asked now
 
@@ -161,9 +161,9 @@ pub record Laws : Type 0 where
   -- nothing happens exactly at MIN going down or at MAX going up
   pub at_limit_means : (level : Level) (mode : Mode) (lo hi : ℕ)
       → (at_limit level mode lo hi ≡ true) ↔ (((mode ≡ Down) × (level ≡ Some lo)) ⊎ ((mode ≡ Up) × (level ≡ Some hi)))
-  -- Reactions: the level before is put back exactly if the fade is to restore it and the on level is missing
-  pub stored_back_means : (after : Option ℕ) (on_level : Level) (before : ℕ)
-      → (level_to_restore after on_level ≡ Some before) ↔ ((after ≡ Some before) × (on_level ≡ None))
+  -- Reactions: the level before is put back exactly if the fade keeps one to put back and the on level is missing
+  pub put_back_means : (put_back : Option ℕ) (on_level : Level) (before : ℕ)
+      → (level_to_put_back put_back on_level ≡ Some before) ↔ ((put_back ≡ Some before) × (on_level ≡ None))
   -- Scenes: the value of the first pair that decides, exactly; missing exactly if none does
   pub scene_known : (ids values : List ℕ) (v : ℕ)
       → (scene_level ids values ≡ Some v) ↔ ((p : Pair) × First decides (pairs ids values) p × (p.value ≡ v))

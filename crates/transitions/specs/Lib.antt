@@ -1,3 +1,4 @@
+-- The pages of definitions, each over those before it.
 pub mod Types
 pub mod Search
 pub mod RemainingTime
@@ -6,7 +7,7 @@ pub mod CurrentLevel
 pub mod Coupling
 pub mod Commands
 pub mod Fade
-pub mod Moves
+pub mod MovePeriod
 pub mod Scene
 pub mod Causes
 pub mod Tasks

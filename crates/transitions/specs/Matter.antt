@@ -1,5 +1,5 @@
 -- What the Matter Application Cluster Specification, Level Control (revision 6), says of the rules of this crate, in our words and
--- without our definitions; and where the two agree. The document itself was not at hand. Each definition is marked:
+-- without our definitions; and where the two agree. The document itself is not at hand. Each definition is marked:
 --   [source]   quoted in the comments of the source, level_control.rs
 --   [general]  general knowledge, not checked against the text
 -- docs/DIFFERENCES.md has a row for each disagreement.

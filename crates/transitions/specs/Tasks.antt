@@ -14,7 +14,7 @@ use Rattle.transitions.specs.declared.tasks.Begin.TheVariants as begin
 use Rattle.transitions.specs.declared.tasks.Fade.{Fade}
 use Rattle.transitions.specs.declared.tasks.FadeRequest.{FadeRequest}
 use Rattle.transitions.specs.declared.tasks.Move.{Move}
-use Rattle.transitions.specs.declared.tasks.MoveCourse.{MoveCourse}
+use Rattle.transitions.specs.declared.tasks.Motion.{Motion}
 use Rattle.transitions.specs.declared.tasks.MoveStep.{MoveStep}
 use Rattle.transitions.specs.declared.tasks.MoveStep.TheVariants as step
 use Rattle.transitions.specs.declared.tasks.Phase.{Phase}
@@ -73,15 +73,15 @@ phase_values (Waiting until) = 1 ∷ until.0 ∷ []
 abbrev pub fade_values : Fade → List ℕ
 fade_values f =
     phase_values f.phase
-    ++ f.target ∷ f.counter ∷ f.transition_time.0 ∷ f.remaining.0 ∷ f.period.0 ∷ flag_number f.with_on_off ∷ flag_number f.scene_apply ∷ level_values f.after
+    ++ f.target ∷ f.counter ∷ f.transition_time.0 ∷ f.remaining.0 ∷ f.period.0 ∷ flag_number f.with_on_off ∷ flag_number f.scene_apply ∷ level_values f.put_back
 
--- a move's course: whether it is with on/off, the mode, 0 up and 1 down, the period
-abbrev pub course_values : MoveCourse → List ℕ
-course_values m = flag_number m.with_on_off ∷ mode_number m.mode ∷ m.period.0 ∷ []
+-- a move's motion: whether it is with on/off, the mode, 0 up and 1 down, the period
+abbrev pub motion_values : Motion → List ℕ
+motion_values m = flag_number m.with_on_off ∷ mode_number m.mode ∷ m.period.0 ∷ []
 
--- what a move keeps: its phase, the level that was asked for last, its course
+-- what a move keeps: its phase, the level that was asked for last, its motion
 abbrev pub move_values : Move → List ℕ
-move_values m = phase_values m.phase ++ m.asked ∷ course_values m.course
+move_values m = phase_values m.phase ++ m.asked ∷ motion_values m.motion
 
 -- whose request it is: 0 start-up's, 1 a fade's, 2 a move's, 3 the reaction to on's; of a fade and a move since when it is open, and what the task keeps; of the
 -- reaction to on the level before, if it is known
@@ -127,7 +127,7 @@ abbrev pub due_wait : Task → Micros → Option Wait
 due_wait task.Rest now = None
 due_wait task.StartUp now = None
 due_wait (task.Fade f) now = due_in f.phase now (wait.Fade f)
-due_wait (task.Move m) now = due_in m.phase now (wait.Move m.course)
+due_wait (task.Move m) now = due_in m.phase now (wait.Move m.motion)
 due_wait (task.OnReaction o) now = None
 
 -- 8: nothing waits, or not so long
@@ -135,10 +135,10 @@ abbrev pub wait_number : Option Wait → ℕ
 wait_number (Some w) = 0
 wait_number None = 8
 
--- whose wait it is, by the numbers above; of a fade all that it keeps, of a move its course
+-- whose wait it is, by the numbers above; of a fade all that it keeps, of a move its motion
 abbrev pub wait_values : Option Wait → List ℕ
 wait_values (Some (wait.Fade f)) = 1 ∷ fade_values f
-wait_values (Some (wait.Move course)) = 2 ∷ course_values course
+wait_values (Some (wait.Move motion)) = 2 ∷ motion_values motion
 wait_values None = []
 
 -- the same of a task whose wait is over, read from the task itself
@@ -146,7 +146,7 @@ abbrev pub waiting_values : Task → List ℕ
 waiting_values task.Rest = []
 waiting_values task.StartUp = []
 waiting_values (task.Fade f) = 1 ∷ fade_values f
-waiting_values (task.Move m) = 2 ∷ course_values m.course
+waiting_values (task.Move m) = 2 ∷ motion_values m.motion
 waiting_values (task.OnReaction o) = []
 
 -- Fades.
@@ -173,14 +173,14 @@ unfoldable pub fade_waiting : Fade → Millis → Micros → Fade
 fade_waiting f remaining until = record f { remaining = remaining; phase = Waiting until }
 
 -- the level that the end of an off fade may put back
-abbrev pub after_fade : Bool → ℕ → Option ℕ
-after_fade restores level = cond restores (Some level) None
+abbrev pub kept_to_put_back : Bool → ℕ → Option ℕ
+kept_to_put_back puts_back level = cond puts_back (Some level) None
 
 -- Reactions: it is put back if the on level is missing when the fade has ended
-unfoldable pub level_to_restore : Option ℕ → Level → Level
-level_to_restore None on_level = None
-level_to_restore (Some before) (Some level) = None
-level_to_restore (Some before) None = Some before
+unfoldable pub level_to_put_back : Option ℕ → Level → Level
+level_to_put_back None on_level = None
+level_to_put_back (Some before) (Some level) = None
+level_to_put_back (Some before) None = Some before
 
 -- from a level c: n = |t − c|, 100·T milliseconds remain, and the first request is open
 unfoldable pub fade_from : ℕ → FadeRequest → Micros → Fade
@@ -192,7 +192,7 @@ fade_from level r now = record {
   transition_time = r.transition_time;
   remaining = tenths_to_millis r.transition_time;
   period = fade_period r.transition_time (apart r.target level);
-  after = after_fade r.restores level;
+  put_back = kept_to_put_back r.puts_back level;
   phase = Asked now;
 }
 
@@ -228,15 +228,15 @@ abbrev pub begun_values : ℕ → FadeRequest → Micros → List ℕ
 begun_values level r now =
     let time = r.transition_time.0 in
     0 ∷ now.0 ∷ r.target ∷ first_asked level r.target time ∷ time ∷ time * 100 ∷ time * 100 / apart r.target level
-    ∷ flag_number r.with_on_off ∷ flag_number r.scene_apply ∷ (if r.restores then level ∷ [] else [])
+    ∷ flag_number r.with_on_off ∷ flag_number r.scene_apply ∷ (if r.puts_back then level ∷ [] else [])
 
 -- Moves.
 
-abbrev pub move_asking : MoveCourse → ℕ → Micros → Move
-move_asking course asked now = record { course = course; asked = asked; phase = Asked now }
+abbrev pub move_asking : Motion → ℕ → Micros → Move
+move_asking motion asked now = record { motion = motion; asked = asked; phase = Asked now }
 
 abbrev pub move_waiting : Move → Micros → Move
-move_waiting m until = record { course = m.course; asked = m.asked; phase = Waiting until }
+move_waiting m until = record { motion = m.motion; asked = m.asked; phase = Waiting until }
 
 -- from the stored level by one; it ends where it would pass 0 or 255
 unfoldable pub next_move : Level → Mode → MoveStep

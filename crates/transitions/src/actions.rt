@@ -2,7 +2,7 @@
 //! Derived from level_control.rs of project-chip/rs-matter 43f61585a4 (see NOTICE), and changed: its calls are actions here.
 ghost use Rattle.std.specs.Prelude.{◌≡◌, ◌≤◌, List, [], ◌++◌, length};
 ghost use Rattle.transitions.specs.Actions.{held, held_coupled, held_if};
-ghost use Rattle.transitions.specs.Events.{act};
+ghost use Rattle.transitions.specs.Actions.{act};
 ghost use Rattle.transitions.specs.declared.actions.Action.{Action};
 
 use arrayvec::ArrayVec;
@@ -11,8 +11,11 @@ use std::marker::Model;
 /// D asks the device for a level, P stores a changed level, S is the scene's notice, C sends on/off to the coupled
 /// cluster, L reports the level, R the remaining time, W waits until a time, E ends in an error, K stores a setting, and
 /// X reports the whole cluster and removes its record.
+// X, the default, stands first: a list that holds nothing is zeros alone.
 #[derive(Clone, Copy, Debug, Default, PartialEq, Eq)]
 pub enum ActionKind {
+    #[default]
+    X,
     D,
     P,
     S,
@@ -22,8 +25,6 @@ pub enum ActionKind {
     W,
     E,
     K,
-    #[default]
-    X,
 }
 
 /// The value is the level of D, 0 or 1 of C, the time of W in µs, the number of E, and 0 of the others. The default, X with 0,

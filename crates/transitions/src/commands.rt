@@ -10,7 +10,8 @@ use crate::types::{LevelRange, Mode, Rate, Time};
 use units::Tenths;
 
 /// The target of a command, of a scene and of a reaction: within MIN..MAX, but 255 as it is. (The source's
-/// move_to_level_validation refuses a level above 254, and both of its callers drop that refusal.)
+/// move_to_level_validation refuses a level above 254, and both of its callers drop that refusal.) Where MIN is above MAX a
+/// target of at most 254 is MAX.
 #[tactic(auto, unfolding(crate::specs::Commands::target_level))]
 pub fn target_level(level: u8, range: LevelRange) -> u8
     ensures { result ≡ target_level level range.min range.max }
@@ -29,7 +30,7 @@ pub fn consults_options(level: u8) -> bool
     level <= 254
 }
 
-/// The target of a step, before the rules for targets.
+/// The target of a step, before the rules for targets: up held to MAX alone, and down to MIN alone, also where MIN is above MAX.
 #[tactic(auto, unfolding(crate::specs::Commands::step_level))]
 pub fn step_level(mode: Mode, level: u8, step_size: u8, range: LevelRange) -> u8
     ensures { result ≡ step_level mode level step_size range.min range.max }
@@ -40,7 +41,8 @@ pub fn step_level(mode: Mode, level: u8, step_size: u8, range: LevelRange) -> u8
     }
 }
 
-/// A step whose size came out different takes its time in proportion. A missing time is 0.
+/// A step whose size came out different takes its time in proportion. A missing time is 0; a size of 0, which is refused
+/// before, takes no time where another came out.
 #[tactic(auto, unfolding(crate::specs::Commands::step_time))]
 pub fn step_time(given: Time, actual_size: u8, step_size: u8) -> Result<Tenths, Refusal>
     ensures value { result ≡ step_time given actual_size step_size }

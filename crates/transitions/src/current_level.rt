@@ -6,7 +6,8 @@ ghost use Rattle.transitions.specs.CurrentLevel.{current_level_due};
 use crate::types::Level;
 use units::Micros;
 
-/// The least gap is a parameter: the state machine gives a second, as the source has it.
+/// The least gap is a parameter: the state machine gives a second, as the source has it. With a gap of 0 every report is due; of
+/// a last report later than now no time has passed.
 #[tactic(auto, unfolding(crate::specs::CurrentLevel::current_level_due))]
 pub fn current_level_due(
     least_gap: Micros,

@@ -6,7 +6,7 @@ ghost use Rattle.transitions.specs.Fade.{fade_period, is_transition_start, next_
 use std::cmp::Ordering;
 use units::{Micros, Millis, Tenths};
 
-/// The time between two requests of a fade over some levels.
+/// The time between two requests of a fade over some levels; over none it is 0.
 #[tactic(auto, unfolding(crate::specs::Fade::fade_period))]
 pub fn fade_period(transition_time: Tenths, steps: u8) -> Millis
     ensures { result ≡ fade_period transition_time steps }
@@ -14,6 +14,7 @@ pub fn fade_period(transition_time: Tenths, steps: u8) -> Millis
     transition_time.to_millis().div_floor(steps)
 }
 
+/// Whether nothing of the time has passed yet. A period of 0 leaves it so.
 #[tactic(auto, unfolding(crate::specs::Fade::is_transition_start))]
 pub fn is_transition_start(remaining: Millis, transition_time: Tenths) -> bool
     ensures { result ≡ is_transition_start remaining transition_time }
@@ -21,7 +22,7 @@ pub fn is_transition_start(remaining: Millis, transition_time: Tenths) -> bool
     remaining == transition_time.to_millis()
 }
 
-/// The unrounded remaining time after an answer.
+/// The unrounded remaining time after an answer; 0 where the period is longer than what remains.
 #[tactic(auto, unfolding(crate::specs::Fade::remaining_after))]
 pub fn remaining_after(remaining: Millis, period: Millis, is_transition_end: bool) -> Millis
     ensures { result ≡ remaining_after remaining period is_transition_end }
@@ -33,7 +34,8 @@ pub fn remaining_after(remaining: Millis, period: Millis, is_transition_end: boo
     }
 }
 
-/// The level that a fade asks for next: its own counter moves by one, whatever level the device gave back.
+/// The level that a fade asks for next: its own counter moves by one, whatever level the device gave back. At its target it
+/// stays.
 #[tactic(auto, unfolding(crate::specs::Fade::next_level))]
 pub fn next_level(counter: u8, target: u8, transition_time: Tenths) -> u8
     ensures { result ≡ next_level counter target transition_time }
@@ -48,7 +50,8 @@ pub fn next_level(counter: u8, target: u8, transition_time: Tenths) -> u8
     }
 }
 
-/// Until when the rest of the period is waited for; None where the device left none of it.
+/// Until when the rest of the period is waited for; None where the device left none of it. An answer before its request waits
+/// until the request's time and the period, as one at that time does.
 #[tactic(auto, unfolding(crate::specs::Fade::wait_or_ask))]
 pub fn wait_or_ask(asked: Micros, answered: Micros, period: Micros) -> Option<Micros>
     ensures value { result ≡ wait_or_ask asked answered period }

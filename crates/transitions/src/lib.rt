@@ -10,7 +10,7 @@ pub mod coupling;
 pub mod current_level;
 pub mod events;
 pub mod fade;
-pub mod moves;
+pub mod move_period;
 pub mod options;
 pub mod remaining_time;
 pub mod scene;

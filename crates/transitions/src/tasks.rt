@@ -2,7 +2,7 @@
 //! Derived from level_control.rs of project-chip/rs-matter 43f61585a4 (see NOTICE), and changed.
 ghost use Rattle.std.specs.Prelude.{◌≡◌, ◌+◌, ◌-◌, ◌*◌, min, [], ◌∷◌, if◌then◌else◌, is_some, nat_eq, nat_le, unwrap_or};
 ghost use Rattle.transitions.specs.Fade.{waits};
-ghost use Rattle.transitions.specs.Tasks.{asked_values, at_limit, begin_fade, begin_number, begin_values, begun_values, due_wait, fade_asking, fade_from, fade_last, fade_left, fade_next, fade_start, fade_waiting, is_move_end, level_to_restore, move_asking, move_step_number, move_step_requests, move_waiting, next_move, one_on, open_request, request_number, request_values, task_due, task_open, wait_number, wait_values, waiting_values};
+ghost use Rattle.transitions.specs.Tasks.{asked_values, at_limit, begin_fade, begin_number, begin_values, begun_values, due_wait, fade_asking, fade_from, fade_last, fade_left, fade_next, fade_start, fade_waiting, is_move_end, level_to_put_back, move_asking, move_step_number, move_step_requests, move_waiting, next_move, one_on, open_request, request_number, request_values, task_due, task_open, wait_number, wait_values, waiting_values};
 ghost use Rattle.transitions.specs.Types.{level_values};
 
 use crate::fade::{fade_period, is_transition_start, next_level, remaining_after, wait_or_ask};
@@ -27,14 +27,14 @@ pub struct Fade {
     pub period: Millis,
     pub with_on_off: bool,
     pub scene_apply: bool,
-    /// The level that is put back when the fade has ended: the off reaction's.
-    pub after: Option<u8>,
+    /// The level that is put back when the fade has ended: the one before off.
+    pub put_back: Option<u8>,
     pub phase: Phase,
 }
 
-/// What a move command asks for.
+/// Which way a move goes, how fast, and whether with on/off.
 #[derive(Clone, Copy, Debug, PartialEq, Eq)]
-pub struct MoveCourse {
+pub struct Motion {
     pub mode: Mode,
     pub period: Micros,
     pub with_on_off: bool,
@@ -43,7 +43,7 @@ pub struct MoveCourse {
 /// A move at a rate: the source's move_transition.
 #[derive(Clone, Copy, Debug, PartialEq, Eq)]
 pub struct Move {
-    pub course: MoveCourse,
+    pub motion: Motion,
     pub asked: u8,
     pub phase: Phase,
 }
@@ -76,7 +76,7 @@ pub enum Request {
 #[derive(Clone, Copy, Debug, PartialEq, Eq)]
 pub enum Wait {
     Fade(Fade),
-    Move(MoveCourse),
+    Move(Motion),
 }
 
 /// What is asked of a fade that is to begin.
@@ -87,7 +87,7 @@ pub struct FadeRequest {
     pub with_on_off: bool,
     pub scene_apply: bool,
     /// Whether the level before is put back when the fade has ended.
-    pub restores: bool,
+    pub puts_back: bool,
 }
 
 /// How a fade begins: at its target already, from no level, or with a first request.
@@ -139,7 +139,7 @@ impl Task {
                 Some(Wait::Fade(fade))
             }
             Task::Move(moving) if let Phase::Waiting { until } = moving.phase && until <= now => {
-                Some(Wait::Move(moving.course))
+                Some(Wait::Move(moving.motion))
             }
             _ => None,
         }
@@ -154,20 +154,21 @@ impl Fade {
         self.counter == self.target
     }
 
+    /// Whether its answer counts as the start.
     pub fn is_start(self) -> bool
         ensures { result ≡ fade_start self }
     {
         is_transition_start(self.remaining, self.transition_time)
     }
 
-    /// The unrounded remaining time after the answer to that request.
+    /// The unrounded remaining time after the answer to that request; 0 where the period is longer than what remains.
     pub fn left(self) -> Millis
         ensures { result ≡ fade_left self }
     {
         remaining_after(self.remaining, self.period, self.is_last())
     }
 
-    /// Until when the next request is waited for after that answer; None where it is made at once.
+    /// Until when the next request is waited for after that answer, as `wait_or_ask`; None where it is made at once.
     pub fn next(self, asked: Micros, answered: Micros) -> Option<Micros>
         ensures value { result ≡ fade_next self asked answered }
         ensures values { waits result
@@ -190,6 +191,7 @@ impl Fade {
         }
     }
 
+    /// With its next request waited for.
     #[tactic(auto, unfolding(crate::specs::Tasks::fade_waiting))]
     pub fn waiting(self, remaining: Millis, until: Micros) -> Fade
         ensures { result ≡ fade_waiting self remaining until }
@@ -202,13 +204,13 @@ impl Fade {
     }
 }
 
-impl MoveCourse {
+impl Motion {
     /// With a request open.
     pub fn asking(self, asked: u8, now: Micros) -> Move
         ensures { result ≡ move_asking self asked now }
     {
         Move {
-            course: self,
+            motion: self,
             asked,
             phase: Phase::Asked { since: now },
         }
@@ -216,6 +218,7 @@ impl MoveCourse {
 }
 
 impl Move {
+    /// With its next request waited for.
     pub fn waiting(self, until: Micros) -> Move
         ensures { result ≡ move_waiting self until }
     {
@@ -227,18 +230,18 @@ impl Move {
 }
 
 /// Which level is put back when a fade has ended: none where an on level is known by then.
-#[tactic(auto, unfolding(crate::specs::Tasks::level_to_restore))]
-pub fn level_to_restore(after: Option<u8>, on_level: Level) -> Level
-    ensures value { result ≡ level_to_restore after on_level }
-    ensures values { level_values result ≡ (if is_some on_level then [] else level_values after) }
+#[tactic(auto, unfolding(crate::specs::Tasks::level_to_put_back))]
+pub fn level_to_put_back(put_back: Option<u8>, on_level: Level) -> Level
+    ensures value { result ≡ level_to_put_back put_back on_level }
+    ensures values { level_values result ≡ (if is_some on_level then [] else level_values put_back) }
 {
     match on_level {
         Some(_) => None,
-        None => after,
+        None => put_back,
     }
 }
 
-/// A fade from a level, with its first request open.
+/// A fade from a level, with its first request open. From its target, where none begins, its period is 0.
 #[tactic(auto, unfolding(crate::specs::Tasks::fade_from))]
 pub fn fade_from(level: u8, request: FadeRequest, now: Micros) -> Fade
     ensures { result ≡ fade_from level request now }
@@ -252,11 +255,12 @@ pub fn fade_from(level: u8, request: FadeRequest, now: Micros) -> Fade
         period: fade_period(time, request.target.abs_diff(level)),
         with_on_off: request.with_on_off,
         scene_apply: request.scene_apply,
-        after: request.restores.then_some(level),
+        put_back: request.puts_back.then_some(level),
         phase: Phase::Asked { since: now },
     }
 }
 
+/// How a fade that is asked for begins.
 #[tactic(auto, unfolding(crate::specs::Tasks::begin_fade, crate::specs::Tasks::fade_from, crate::specs::Fade::next_level, crate::specs::Fade::fade_period))]
 pub fn begin_fade(level: Level, request: FadeRequest, now: Micros) -> Begin
     ensures value { result ≡ begin_fade level request now }

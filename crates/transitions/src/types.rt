@@ -37,13 +37,14 @@ pub struct LevelRange {
 }
 
 impl LevelRange {
-    /// The nearest level within. Std's `clamp` asks for MIN no more than MAX; of others this gives MAX.
+    /// The nearest level within. Where MIN is above MAX it is MAX; std's `clamp` asks that it is not.
     pub fn clamp(self, level: u8) -> u8
         ensures { result ≡ held_to self.min self.max level }
     {
         level.max(self.min).min(self.max)
     }
 
+    /// Whether a level lies within. Where MIN is above MAX none does.
     pub fn contains(self, level: u8) -> bool
         ensures { result ≡ is_within self level }
     {

@@ -48,21 +48,21 @@ impl Tenths {
 }
 
 impl Millis {
-    /// The difference, or 0 where it would fall below.
+    /// The difference; 0 where the other is larger.
     pub fn saturating_sub(self, other: Millis) -> Millis
         ensures { result ≡ millis_less self other }
     {
         Millis(self.0.saturating_sub(other.0))
     }
 
-    /// Over 0 it gives 0.
+    /// Rounded down. Over 0 it gives 0.
     pub fn div_floor(self, divisor: u8) -> Millis
         ensures { result ≡ millis_divided self divisor }
     {
         Millis(self.0.checked_div(u32::from(divisor)).unwrap_or(0))
     }
 
-    /// Rounded up, in the low 16 bits, as the source's `as u16` keeps them.
+    /// Rounded up. Above 6,553,500 ms the low 16 bits are kept, as the source's `as u16` does.
     pub fn to_tenths_ceil(self) -> Tenths
         ensures { result ≡ tenths_up self }
     {
@@ -87,14 +87,14 @@ impl Millis {
 }
 
 impl Micros {
-    /// A span later, held at the type's end.
+    /// A span later; 2^64 − 1 where the sum would pass it.
     pub fn saturating_add(self, span: Micros) -> Micros
         ensures { result ≡ later self span }
     {
         Micros(self.0.saturating_add(span.0))
     }
 
-    /// The span since an earlier reading; none where that reading is later.
+    /// The span since an earlier reading; 0 where that reading is later.
     pub fn saturating_sub(self, earlier: Micros) -> Micros
         ensures { result ≡ elapsed earlier self }
     {

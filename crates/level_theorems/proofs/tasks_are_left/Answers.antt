@@ -1,3 +1,4 @@
+-- What the check of `tasks_are_left` does not find by itself.
 use Rattle.level_theorems.proofs.RunSteps.{leaves_task_holds}
 use Rattle.level_theorems.proofs.tasks_are_left.Goals as goal
 

@@ -1,3 +1,4 @@
+-- What the loop of `all` keeps.
 use Rattle.std.proofs.Common.{◌+◌, ◌≤◌}
 use Rattle.replay.proofs.all.Given as goal
 

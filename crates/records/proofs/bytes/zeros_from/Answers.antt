@@ -1,3 +1,4 @@
+-- What the check of `zeros_from` does not find by itself.
 use Rattle.std.proofs.Common.{drop, nat_eq, rules, tests, arith}
 use Rattle.std.proofs.lemmas.Grind.{common_steps}
 use Rattle.std.proofs.lemmas.Iterator.{YieldsList-from_slice}

@@ -1,3 +1,4 @@
+-- What the check of `fit` does not find by itself.
 use Rattle.std.proofs.Common.{◌≤◌, length, arith}
 use Rattle.sheet.proofs.SheetLaws.{fit_yes, sure}
 use Rattle.sheet.proofs.lines.fit.Goals as goal

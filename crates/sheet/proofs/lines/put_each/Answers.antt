@@ -1,3 +1,4 @@
+-- What the check of `put_each` does not find by itself.
 use Rattle.std.proofs.Common.{ℕ, ◌+◌, ◌<◌, List, ◌++◌, ◌≡◌, length, ap, sym, ◌∙◌, ⊎_elim, arith}
 use Rattle.text.specs.Text.{most}
 use Rattle.text.proofs.WriteLaws.{none_wrote}

@@ -1,3 +1,4 @@
+-- What the loop of `put_each` keeps.
 use Rattle.std.proofs.Common.{◌≡◌, ℕ, ◌+◌, ◌*◌, ◌/◌, ◌≤◌, ◌<◌, min, List, length}
 use Rattle.text.specs.Text.{Room, Wrote, most}
 use Rattle.level_control.specs.State.{new_state}

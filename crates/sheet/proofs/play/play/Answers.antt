@@ -1,3 +1,4 @@
+-- What the check of `play` does not find by itself.
 use Rattle.std.proofs.Common.{◌≡◌, Err, arith, rules}
 use Rattle.std.proofs.lemmas.List.{take_rest}
 use Rattle.sheet.specs.Play.{play_of, play_with}

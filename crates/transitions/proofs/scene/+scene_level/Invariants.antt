@@ -1,3 +1,4 @@
+-- What the loop of `scene_level` keeps.
 use Rattle.std.proofs.Common.{length}
 use Rattle.transitions.proofs.scene.+scene_level.Given as goal
 

@@ -1,3 +1,4 @@
+-- What the loop of `append_actions` keeps.
 use Rattle.std.proofs.Common.{◌≡◌, ◌++◌, take}
 use Rattle.text.specs.Line.{actions_text}
 use Rattle.text.proofs.line.Line.append_actions.Given as goal

@@ -1,7 +1,7 @@
 //! A record to an event.
 ghost use Rattle.std.specs.Prelude.{◌≡◌, ◌≢◌, ◌↔◌, ◌≤◌, ◌<◌, [], get_or, if◌then◌else◌, nat_eq};
 ghost use Rattle.records.specs.Bytes.{byte_at};
-ghost use Rattle.records.specs.Events.{answer, bare, command_options, device_update, event_read, event_read_number, event_read_values, event_values_at, kind_read, known_value, mode_at, move, move_to_level, of_command, on_off_changed, scene, step, stop};
+ghost use Rattle.records.specs.EventRecord.{answer, bare, command_options, device_update, event_read, event_read_number, event_read_values, event_values_at, kind_read, known_value, mode_at, move, move_to_level, of_command, on_off_changed, scene, step, stop};
 ghost use Rattle.records.specs.Layout.{event_layouts, layout, Keeps, Marked};
 
 use crate::RECORD;
@@ -16,7 +16,7 @@ use units::Millis;
 
 /// The event that a record says. None, number 1, where it has not 20 bytes, or a mark, a flag, the mode, the kind, an
 /// answer's code or an unnamed byte is wrong.
-#[tactic(auto, unfolding(crate::specs::Events::event_read))]
+#[tactic(auto, unfolding(crate::specs::EventRecord::event_read))]
 pub fn read_event(bytes: &[u8]) -> Option<Event>
     ensures value { result ≡ event_read bytes.now }
     ensures number { (event_read_number result ≡ 0)
@@ -38,7 +38,7 @@ pub fn read_event(bytes: &[u8]) -> Option<Event>
 }
 
 /// Byte 2, and what its kind says of the bytes from 12 on.
-#[tactic(auto, unfolding(crate::specs::Events::kind_read))]
+#[tactic(auto, unfolding(crate::specs::EventRecord::kind_read))]
 fn read_kind(bytes: &[u8; RECORD]) -> Option<EventKind>
     ensures { result ≡ kind_read bytes.now }
 {
@@ -51,7 +51,7 @@ fn read_kind(bytes: &[u8; RECORD]) -> Option<EventKind>
 }
 
 /// The other twelve kinds.
-#[tactic(auto, using(crate::proofs::KindLaws::no_kind), unfolding(crate::specs::Events::kind_read))]
+#[tactic(auto, using(crate::proofs::KindLaws::no_kind), unfolding(crate::specs::EventRecord::kind_read))]
 fn read_command(bytes: &[u8; RECORD]) -> Option<Command>
     requires no_start_up { byte_at bytes.now 2 ≢ 0 }
     requires no_answer { byte_at bytes.now 2 ≢ 5 }

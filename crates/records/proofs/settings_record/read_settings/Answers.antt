@@ -1,7 +1,8 @@
+-- What the check of `read_settings` does not find by itself.
 use Rattle.std.proofs.Common.{◌≡◌, ap, ◌∙◌, Ok, rules}
-use Rattle.records.specs.Settings.{settings_read, settings_read_number}
+use Rattle.records.specs.SettingsRecord.{settings_read, settings_read_number}
 use Rattle.records.proofs.LayoutLaws.{settings_number}
-use Rattle.records.proofs.settings.read_settings.Goals as goal
+use Rattle.records.proofs.settings_record.read_settings.Goals as goal
 
 pub returns-in_err-settings-clause-number : goal.returns-in_err-settings-clause-number
 unfolding settings_read

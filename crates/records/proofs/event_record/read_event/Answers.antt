@@ -1,9 +1,10 @@
+-- What the check of `read_event` does not find by itself.
 use Rattle.std.proofs.Common.{◌≡◌, Some, refl, sym, ap, rules}
 use Rattle.transitions.specs.Events.{event}
-use Rattle.records.specs.Events.{event_read, event_read_number}
+use Rattle.records.specs.EventRecord.{event_read, event_read_number}
 use Rattle.records.proofs.LayoutLaws.{event_right}
-use Rattle.records.proofs.ValueLaws.{event_values}
-use Rattle.records.proofs.events.read_event.Goals as goal
+use Rattle.records.proofs.ReadLaws.{event_values}
+use Rattle.records.proofs.event_record.read_event.Goals as goal
 
 pub returns-in_err-kind-clause-number : goal.returns-in_err-kind-clause-number
 unfolding event_read

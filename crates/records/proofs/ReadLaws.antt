@@ -20,10 +20,10 @@ use Rattle.transitions.specs.declared.events.EventKind.{EventKind}
 use Rattle.transitions.specs.declared.events.EventKind.TheVariants as kind
 use Rattle.transitions.specs.declared.settings.Settings.{Settings}
 use Rattle.records.specs.Bytes.{byte_at, is_set}
-use Rattle.records.specs.Events.{mode_of, kinds, event_read, event_read_number, event_read_values, kind_values, kind_values_at, event_values_at}
+use Rattle.records.specs.EventRecord.{mode_of, kinds, event_read, event_read_number, event_read_values, kind_values, kind_values_at, event_values_at}
 use Rattle.records.specs.Laws.{settings_causes, settings_tests}
 use Rattle.records.specs.Layout.{layout, event_layouts, Keeps}
-use Rattle.records.specs.Settings.{known_bit, settings_at, settings_read, settings_read_values, settings_values_at, settings_wrong}
+use Rattle.records.specs.SettingsRecord.{known_bit, settings_at, settings_read, settings_read_values, settings_values_at, settings_wrong}
 use Rattle.records.specs.Written.{bit, known}
 use Rattle.records.specs.declared.refusal.RecordRefusal.TheVariants.{RecordWrong, MaxAbove254, MinAboveMax, LightingMin0}
 use Rattle.records.proofs.HeadLaws.{Each, each_at, then_gives, map_gives, parts, event_head}

@@ -2,7 +2,7 @@
 ghost use Rattle.std.specs.Prelude.{◌≡◌, Ok, Err, IfErr, OnOk, ◌<◌, not, is_some, IfSome, [], if◌then◌else◌, nat_eq};
 ghost use Rattle.transitions.specs.Causes.{first_cause};
 ghost use Rattle.records.specs.Laws.{settings_tests};
-ghost use Rattle.records.specs.Settings.{checked, known_bit, settings_at, settings_read, settings_read_number, settings_read_values, settings_values_at, settings_wrong};
+ghost use Rattle.records.specs.SettingsRecord.{checked, known_bit, settings_at, settings_read, settings_read_number, settings_read_values, settings_values_at, settings_wrong};
 
 use crate::RECORD;
 use crate::bytes::{flag, marked, tenths_at, zeros_from};
@@ -11,7 +11,7 @@ use transitions::settings::{Attributes, Settings};
 use transitions::types::{LevelRange, OptionsBitmap};
 
 /// The settings that a record says, or the first cause that refuses them.
-#[tactic(auto, using(crate::proofs::ValueLaws::settings_values), unfolding(crate::specs::Settings::settings_read))]
+#[tactic(auto, using(crate::proofs::ReadLaws::settings_values), unfolding(crate::specs::SettingsRecord::settings_read))]
 pub fn read_settings(bytes: &[u8]) -> Result<Settings, RecordRefusal>
     ensures value { result ≡ settings_read bytes.now }
     ensures number { settings_read_number result ≡ first_cause (settings_tests bytes.now) }

@@ -5,7 +5,7 @@ use mathlib.Core.List.{◌++◌}
 use native.Mathlib.Omega.{arith}
 use lib.ListN.{length, take, replicate}
 use lib.Seq.{take-append_seam, take-take}
-use Rattle.transitions.specs.Events.{action}
+use Rattle.transitions.specs.Actions.{action}
 use Rattle.transitions.specs.declared.actions.ActionKind.TheVariants.{X}
 use Rattle.level_control.specs.Answer.{Outcome, answer_of, packed}
 

@@ -21,8 +21,10 @@ use Rattle.level_control.specs.Targets.{quiet, moved_to_level, stepped, recalled
 use Rattle.level_control.specs.Fades.{fade_answered, fade_woken}
 use Rattle.level_control.specs.Moves.{begin_move, move_goes_on, move_answered}
 use Rattle.level_control.specs.Reactions.{switched, on_answered}
-use Rattle.level_control.specs.Rest.{started_up, start_up_answered, updated, on_level_set, default_move_rate_set, start_up_current_level_set, reset_all}
-use Rattle.level_control.specs.Causes.{turn_tests, command_tests_of}
+use Rattle.level_control.specs.StartUp.{started_up, start_up_answered}
+use Rattle.level_control.specs.Updates.{updated}
+use Rattle.level_control.specs.Setters.{on_level_set, default_move_rate_set, start_up_current_level_set, reset_all}
+use Rattle.level_control.specs.Judge.{turn_tests, command_tests_of}
 use Rattle.level_control.specs.declared.state.LevelControlState.{LevelControlState}
 use Rattle.transitions.specs.declared.events.Command.TheVariants as command
 
@@ -59,7 +61,7 @@ abbrev pub woken_in : Task → LevelControlState → Micros → Bool → Outcome
 woken_in task.Rest s at on = done s []
 woken_in task.StartUp s at on = done s []
 woken_in (task.Fade f) s at on = fade_woken s f at
-woken_in (task.Move m) s at on = move_goes_on (quiet s) m.course at on
+woken_in (task.Move m) s at on = move_goes_on (quiet s) m.motion at on
 woken_in (task.OnReaction r) s at on = done s []
 
 unfoldable pub woken : LevelControlState → Micros → Bool → Outcome

@@ -5,13 +5,13 @@ use mathlib.Core.Path.{◌≡◌, refl, ap}
 use Rattle.units.specs.declared.Micros.{Micros}
 use Rattle.units.specs.declared.Millis.{Millis}
 use Rattle.transitions.specs.Fade.{wait_or_ask}
-use Rattle.transitions.specs.Tasks.{fade_last, fade_next, fade_asking, fade_waiting, level_to_restore, next_move, at_limit}
+use Rattle.transitions.specs.Tasks.{fade_last, fade_next, fade_asking, fade_waiting, level_to_put_back, next_move, at_limit}
 use Rattle.transitions.specs.declared.events.DeviceAnswer.{DeviceAnswer}
 use Rattle.transitions.specs.declared.events.DeviceAnswer.TheVariants as device
 use Rattle.transitions.specs.declared.events.MoveRequest.{MoveRequest}
 use Rattle.transitions.specs.declared.tasks.Fade.{Fade}
 use Rattle.transitions.specs.declared.tasks.Move.{Move}
-use Rattle.transitions.specs.declared.tasks.MoveCourse.{MoveCourse}
+use Rattle.transitions.specs.declared.tasks.Motion.{Motion}
 use Rattle.transitions.specs.declared.tasks.MoveStep.{MoveStep}
 use Rattle.transitions.specs.declared.tasks.MoveStep.TheVariants as step
 use Rattle.transitions.specs.declared.tasks.OnReaction.{OnReaction}
@@ -20,9 +20,9 @@ use Rattle.transitions.specs.declared.tasks.Task.TheVariants as task
 use Rattle.transitions.specs.Types.{Level}
 use Rattle.level_control.specs.Answer.{Outcome}
 use Rattle.level_control.specs.Reports.{told_level}
-use Rattle.level_control.specs.Fades.{restored, fade_ended_by, fade_ended, fade_then, fade_goes_on, fade_told, move_to_level_transition, fade_missing, device_failed, fade_answered, fade_woken}
+use Rattle.level_control.specs.Fades.{ended_put_back, fade_ended_by, fade_ended, fade_then, fade_goes_on, fade_told, move_to_level_transition, fade_missing, device_failed, fade_answered, fade_woken}
 use Rattle.level_control.specs.Moves.{move_by, move_goes_on, move_at, begin_move, move_next, move_then, move_ends, move_transition, move_missing, move_answered, rate_by}
-use Rattle.level_control.specs.Rest.{stored_start_up, start_up_answered}
+use Rattle.level_control.specs.StartUp.{stored_start_up, start_up_answered}
 use Rattle.level_control.specs.Run.{with_level as has_level}
 use Rattle.level_theorems.specs.Covered.{SameFade}
 use Rattle.level_control.specs.Reports.{Told}
@@ -58,15 +58,15 @@ module _ (R : OnReaction → Type 0) (x : Task) (onward : Bool) where
   cond_goes true o p g h = g
   cond_goes false o p g h = h
 
-  ended_goes : (t : Told) (after : Option ℕ) → To (fade_ended t after)
-  unfolding fade_ended restored
-  ended_goes t after = by (level_to_restore after t.state.attributes.on_level)
+  ended_goes : (t : Told) (put_back : Option ℕ) → To (fade_ended t put_back)
+  unfolding fade_ended ended_put_back
+  ended_goes t put_back = by (level_to_put_back put_back t.state.attributes.on_level)
     where
       by : (l : Level) → To (fade_ended_by l t)
       by (Some before) = plain task.Rest refl
       by None = plain task.Rest refl
 
-  pub move_goes : (t : Told) (m : MoveCourse) (at : Micros) (on : Bool) → To (move_goes_on t m at on)
+  pub move_goes : (t : Told) (m : Motion) (at : Micros) (on : Bool) → To (move_goes_on t m at on)
   unfolding move_goes_on
   move_goes t m at on = by (next_move t.state.current_level m.mode)
     where
@@ -77,11 +77,11 @@ module _ (R : OnReaction → Type 0) (x : Task) (onward : Bool) where
 
   move_then_goes : (t : Told) (m : Move) (since at : Micros) (on : Bool) → To (move_then t m since at on)
   unfolding move_then
-  move_then_goes t m since at on = by (wait_or_ask since at m.course.period)
+  move_then_goes t m since at on = by (wait_or_ask since at m.motion.period)
     where
       by : (n : Option Micros) → To (move_next n t m at on)
       by (Some until) = plain _ refl
-      by None = move_goes t m.course at on
+      by None = move_goes t m.motion at on
 
   pub move_answered_goes : (s : LevelControlState) (m : Move) (since at : Micros) (on : Bool) (a : DeviceAnswer) → To (move_answered s m since at on a)
   unfolding move_answered move_transition move_missing device_failed
@@ -110,11 +110,11 @@ begin_move_goes R onward s r at on =
 
 asking : (f : Fade) (x : Millis) (at : Micros) → SameFade f (fade_asking f x at)
 unfolding fade_asking
-asking f x at = record { with_on_off = refl; scene = refl; target = refl; time = refl; period = refl; after = refl }
+asking f x at = record { with_on_off = refl; scene = refl; target = refl; time = refl; period = refl; put_back = refl }
 
 waiting : (f : Fade) (x : Millis) (until : Micros) → SameFade f (fade_waiting f x until)
 unfolding fade_waiting
-waiting f x until = record { with_on_off = refl; scene = refl; target = refl; time = refl; period = refl; after = refl }
+waiting f x until = record { with_on_off = refl; scene = refl; target = refl; time = refl; period = refl; put_back = refl }
 
 goes_on_goes : (R : OnReaction → Type 0) (t : Told) (f : Fade) (since at : Micros) → Becomes R (task.Fade f) true (fade_goes_on t f since at).state.task
 unfolding fade_goes_on
@@ -128,7 +128,7 @@ pub fade_answered_goes : (R : OnReaction → Type 0) (s : LevelControlState) (f 
     → Becomes R (task.Fade f) (has_level a) (fade_answered s f since at on a).state.task
 unfolding fade_answered move_to_level_transition fade_missing device_failed
 fade_answered_goes R s f since at on (device.Level level) =
-    cond_goes R (task.Fade f) true (fade_last f) _ _ (ended_goes R (task.Fade f) true (fade_told s f at on level) f.after)
+    cond_goes R (task.Fade f) true (fade_last f) _ _ (ended_goes R (task.Fade f) true (fade_told s f at on level) f.put_back)
     (goes_on_goes R (fade_told s f at on level) f since at)
 fade_answered_goes R s f since at on device.Missing = plain R (task.Fade f) false task.Rest refl
 fade_answered_goes R s f since at on device.Failed = plain R (task.Fade f) false task.Rest refl

@@ -1,19 +1,18 @@
-//! Start-up, and a device's update.
+//! Start-up: its request, and the answer to it.
 //! Derived from level_control.rs of project-chip/rs-matter 43f61585a4 (see NOTICE), and changed.
 ghost use Rattle.std.specs.Prelude.{◌≡◌, []};
 ghost use Rattle.level_control.specs.Answer.{done};
-ghost use Rattle.level_control.specs.Rest.{start_up_answered, start_up_level, started_up, stored_start_up, updated};
+ghost use Rattle.level_control.specs.StartUp.{start_up_answered, start_up_level, started_up, stored_start_up};
 
 use crate::state::LevelControlState;
 use transitions::actions::{ActionKind, Actions};
 use transitions::events::DeviceAnswer;
 use transitions::tasks::Task;
 use transitions::types::Level;
-use units::Micros;
 
 impl LevelControlState {
     /// The start-up level within MIN..MAX, else the stored one as it is.
-    #[tactic(auto, unfolding(crate::specs::Rest::start_up_level))]
+    #[tactic(auto, unfolding(crate::specs::StartUp::start_up_level))]
     fn start_up_level(&self) -> Level
         ensures { result ≡ start_up_level self.now }
     {
@@ -23,7 +22,7 @@ impl LevelControlState {
         }
     }
 
-    #[tactic(auto, unfolding(crate::specs::Rest::started_up))]
+    #[tactic(auto, unfolding(crate::specs::StartUp::started_up))]
     pub(crate) fn started_up(&mut self, actions: &mut Actions)
         requires { actions.old ≡ [] }
         ensures { done self.new actions.new ≡ started_up self.old }
@@ -34,7 +33,7 @@ impl LevelControlState {
     }
 
     /// An answer to start-up is stored, and told by P at most.
-    #[tactic(auto, unfolding(transitions::specs::Types::same_level, crate::specs::Rest::stored_start_up))]
+    #[tactic(auto, unfolding(transitions::specs::Types::same_level, crate::specs::StartUp::stored_start_up))]
     fn stored_start_up(&mut self, level: Level, actions: &mut Actions)
         requires { actions.old ≡ [] }
         ensures { done self.new actions.new ≡ stored_start_up self.old level }
@@ -44,7 +43,7 @@ impl LevelControlState {
         self.task = Task::Rest;
     }
 
-    #[tactic(auto, unfolding(crate::specs::Rest::start_up_answered))]
+    #[tactic(auto, unfolding(crate::specs::StartUp::start_up_answered))]
     pub(crate) fn start_up_answered(&mut self, answer: DeviceAnswer, actions: &mut Actions)
         requires { actions.old ≡ [] }
         ensures { done self.new actions.new ≡ start_up_answered self.old answer }
@@ -54,15 +53,5 @@ impl LevelControlState {
             DeviceAnswer::Missing => self.stored_start_up(None, actions),
             DeviceAnswer::Failed => self.task = Task::Rest,
         }
-    }
-
-    /// The device's level changed under us. It counts as an end.
-    #[tactic(auto, using(crate::proofs::ActionLaws::time_told), unfolding(crate::specs::Rest::updated, crate::specs::Targets::stopped, crate::specs::Reports::told_level, transitions::specs::Types::same_level))]
-    pub(crate) fn updated(&mut self, level: u8, now: Micros, actions: &mut Actions)
-        requires { actions.old ≡ [] }
-        ensures { done self.new actions.new ≡ updated self.old level now }
-    {
-        self.told_level(Some(level), now, true, actions);
-        self.stopped(actions);
     }
 }

@@ -1,12 +1,12 @@
-//! One event of any kind.
+//! One event of any kind: judged, and what it is to do followed.
 //! Derived from level_control.rs of project-chip/rs-matter 43f61585a4 (see NOTICE), and changed.
 ghost use Rattle.std.specs.Prelude.{◌≡◌, []};
 ghost use Rattle.level_control.specs.Answer.{done, handled, handled_number, number_shown, packed};
 ghost use Rattle.level_control.specs.Course.{follow};
-ghost use Rattle.level_control.specs.Events.{answered_to, event_of, number_of};
+ghost use Rattle.level_control.specs.Handle.{answered_to, event_of, number_of};
 
 use crate::answer::Answer;
-use crate::causes::Course;
+use crate::judge::Course;
 use crate::state::LevelControlState;
 use transitions::actions::{ActionKind, Actions};
 use transitions::causes::Refusal;
@@ -27,8 +27,9 @@ impl LevelControlState {
     }
 
     /// The same where the state stands: it changes only if the event is accepted. The actions are put in place of those in
-    /// the lent list; a refused event has none.
-    #[tactic(auto, using(crate::proofs::ActionLaws::refusal_not_0), unfolding(crate::specs::Events::event_of))]
+    /// the lent list; a refused event has none. A task that waits although nothing was accepted, which no play makes, is replaced
+    /// where start-up asks for a level.
+    #[tactic(auto, using(crate::proofs::ActionLaws::refusal_not_0), unfolding(crate::specs::Handle::event_of))]
     pub fn handle(&mut self, event: Event, actions: &mut Actions) -> Result<(), Refusal>
         ensures value { handled result self.new actions.new ≡ event_of self.old event }
         ensures number { handled_number result ≡ number_of self.old event }
@@ -42,7 +43,7 @@ impl LevelControlState {
 
     // The list is lent to all that follows, and is empty: given back by value an event takes two fifths longer. What an event
     // brings and what it fills stay two parameters: one struct would hold a lent list beside a value.
-    #[tactic(auto, unfolding(crate::specs::Rest::reset_all))]
+    #[tactic(auto, unfolding(crate::specs::Setters::reset_all))]
     fn follow(&mut self, course: Course, moment: Moment, actions: &mut Actions)
         requires { actions.old ≡ [] }
         ensures { done self.new actions.new ≡ follow self.old course moment.at moment.on_off }
@@ -52,9 +53,9 @@ impl LevelControlState {
             Course::StartUp => self.started_up(actions),
             Course::Answered(request, answer) => self.answered(request, answer, moment, actions),
             Course::Woken(Wait::Fade(fade)) => self.fade_woken(fade, moment.at, actions),
-            Course::Woken(Wait::Move(course)) => self.move_goes_on(course, moment, actions),
+            Course::Woken(Wait::Move(motion)) => self.move_goes_on(motion, moment, actions),
             Course::GoTo(request) => self.go_to(request, moment, actions),
-            Course::Move(course) => self.move_goes_on(course, moment, actions),
+            Course::Move(motion) => self.move_goes_on(motion, moment, actions),
             Course::Stop => self.stopped(actions),
             Course::TurnOn => self.turned_on(actions),
             Course::Update(level) => self.updated(level, moment.at, actions),
@@ -63,7 +64,7 @@ impl LevelControlState {
                 actions.push(ActionKind::K, 0);
             }
             Course::Reset => {
-                self.put_back();
+                self.reset();
                 actions.push(ActionKind::X, 0);
             }
         }

@@ -4,6 +4,8 @@ use Rattle.units.specs.Units.{micros, before}
 use Rattle.units.specs.declared.Micros.{Micros}
 use Rattle.transitions.specs.Types.{is_missing, is_outside, is_zero_rate}
 use Rattle.transitions.specs.Causes.{command_tests, no_command_tests, no_turn_tests, event_tests, first_cause}
+use Rattle.transitions.specs.Options.{should_continue}
+use Rattle.transitions.specs.declared.types.OptionsBitmap.{OptionsBitmap}
 use Rattle.transitions.specs.Commands.{consults_options, is_overflow, is_invalid}
 use Rattle.transitions.specs.Tasks.{task_open, task_due}
 use Rattle.transitions.specs.Causes.{CommandTests}
@@ -20,11 +22,14 @@ use Rattle.transitions.specs.declared.events.StepRequest.{StepRequest}
 use Rattle.transitions.specs.declared.options.CommandOptions.{CommandOptions}
 use Rattle.transitions.specs.Types.{Level}
 use Rattle.transitions.specs.Types.{Rate}
-use Rattle.level_control.specs.Reports.{continues}
 use Rattle.level_control.specs.Targets.{stepped_time}
 use Rattle.level_control.specs.Moves.{rate_by}
 use Rattle.level_control.specs.declared.state.LevelControlState.{LevelControlState}
 use Rattle.transitions.specs.declared.events.Command.TheVariants as command
+
+-- Options: a command goes on, with the settings and the options of the state
+unfoldable pub continues : LevelControlState → Bool → Bool → OptionsBitmap → OptionsBitmap → Bool
+continues s with_on_off on mask override = should_continue with_on_off s.settings.coupled on s.attributes.options mask override
 
 -- the last clock time that is accepted, 2^62 − 1
 abbrev pub latest : Micros

@@ -3,11 +3,10 @@
 ghost use Rattle.std.specs.Prelude.{◌≡◌, IfErr, IfOk, OnOk, not, ◌&&◌};
 ghost use Rattle.transitions.specs.Causes.{refusal_number};
 ghost use Rattle.transitions.specs.Commands.{consults_options};
-ghost use Rattle.level_control.specs.Causes.{command_tests_by, level_judged, move_tests, move_to_level_tests, scene_tests, step_tests, tests_number};
-ghost use Rattle.level_control.specs.Course.{follow, unless_stopped};
-ghost use Rattle.level_control.specs.Events.{event_of, number_of, run_command};
+ghost use Rattle.level_control.specs.Judge.{command_tests_by, continues, level_judged, move_tests, move_to_level_tests, scene_tests, step_tests, tests_number};
+ghost use Rattle.level_control.specs.Course.{follow, unless_options_stop};
+ghost use Rattle.level_control.specs.Handle.{event_of, number_of, run_command};
 ghost use Rattle.level_control.specs.Moves.{begin_move};
-ghost use Rattle.level_control.specs.Reports.{continues};
 ghost use Rattle.level_control.specs.State.{accept};
 ghost use Rattle.level_control.specs.Targets.{moved_to_level, recalled, stepped};
 
@@ -18,10 +17,10 @@ use transitions::events::{
     Command, DeviceAnswer, Event, EventKind, MoveRequest, MoveToLevelRequest, SceneRequest,
     StepRequest,
 };
-use transitions::moves::move_period;
+use transitions::move_period::move_period;
 use transitions::options::CommandOptions;
 use transitions::settings::Attributes;
-use transitions::tasks::{FadeRequest, MoveCourse, Request, Wait, at_limit};
+use transitions::tasks::{FadeRequest, Motion, Request, Wait, at_limit};
 use transitions::types::{Level, Moment, OptionsBitmap};
 use units::{Micros, Tenths};
 
@@ -44,7 +43,7 @@ pub(crate) enum Course {
     Answered(Request, DeviceAnswer),
     Woken(Wait),
     GoTo(FadeRequest),
-    Move(MoveCourse),
+    Move(Motion),
     Stop,
     TurnOn,
     Update(u8),
@@ -54,7 +53,7 @@ pub(crate) enum Course {
 
 // Three clauses, here and of what is under it: a definition of all three would be unfolded by each caller.
 impl LevelControlState {
-    #[tactic(auto, unfolding(crate::specs::Events::event_of, crate::specs::Events::number_of, crate::specs::Events::run, crate::specs::Events::answered, crate::specs::Events::woken, crate::specs::Causes::turn_tests, crate::specs::Causes::time_refused, crate::specs::Causes::command_tests_of, transitions::specs::Causes::first_cause))]
+    #[tactic(auto, unfolding(crate::specs::Handle::event_of, crate::specs::Handle::number_of, crate::specs::Handle::run, crate::specs::Handle::answered, crate::specs::Handle::woken, crate::specs::Judge::turn_tests, crate::specs::Judge::time_refused, crate::specs::Judge::command_tests_of, transitions::specs::Causes::first_cause))]
     pub(crate) fn judge(&self, event: Event) -> Result<Course, Refusal>
         ensures refused { IfErr result (λ cause. refusal_number cause ≡ number_of self.now event) }
         ensures accepted { OnOk result (number_of self.now event ≡ 0) }
@@ -81,11 +80,11 @@ impl LevelControlState {
         }
     }
 
-    #[tactic(auto, unfolding(crate::specs::Causes::move_to_level_tests, crate::specs::Causes::scene_tests, crate::specs::Causes::stop_tests, crate::specs::Causes::level_tests, crate::specs::Causes::rate_tests, crate::specs::Reactions::switched, crate::specs::Reactions::turned_off, crate::specs::Reactions::off_time, crate::specs::Rest::on_level_set, crate::specs::Rest::default_move_rate_set, crate::specs::Rest::start_up_current_level_set, transitions::specs::Causes::first_cause))]
+    #[tactic(auto, unfolding(crate::specs::Judge::move_to_level_tests, crate::specs::Judge::scene_tests, crate::specs::Judge::stop_tests, crate::specs::Judge::level_tests, crate::specs::Judge::rate_tests, crate::specs::Reactions::switched, crate::specs::Reactions::turned_off, crate::specs::Reactions::off_time, crate::specs::Setters::on_level_set, crate::specs::Setters::default_move_rate_set, crate::specs::Setters::start_up_current_level_set, transitions::specs::Causes::first_cause))]
     fn judge_command(&self, command: Command, moment: Moment) -> Result<Course, Refusal>
         ensures refused { IfErr result (λ cause. refusal_number cause ≡ tests_number (command_tests_by self.now moment.on_off command)) }
         ensures accepted { OnOk result (tests_number (command_tests_by self.now moment.on_off command) ≡ 0) }
-        ensures course { IfOk result (λ course. follow (accept self.now moment.at) course moment.at moment.on_off ≡ unless_stopped (command_tests_by self.now moment.on_off command) (accept self.now moment.at) (run_command (accept self.now moment.at) command moment.at moment.on_off)) }
+        ensures course { IfOk result (λ course. follow (accept self.now moment.at) course moment.at moment.on_off ≡ unless_options_stop (command_tests_by self.now moment.on_off command) (accept self.now moment.at) (run_command (accept self.now moment.at) command moment.at moment.on_off)) }
     {
         match command {
             Command::MoveToLevel(request) => Ok(self.judge_move_to_level(request, moment)),
@@ -124,18 +123,26 @@ impl LevelControlState {
         }
     }
 
+    /// With the settings and the stored options of the state.
+    #[tactic(auto, unfolding(crate::specs::Judge::continues))]
+    fn should_continue(&self, options: CommandOptions, on_off: bool) -> bool
+        ensures { result ≡ continues self.now options.with_on_off on_off options.options_mask options.options_override }
+    {
+        options.should_continue(self.settings.coupled, on_off, self.attributes.options)
+    }
+
     /// Whether the options stop a command to a level: of 255 they are not looked at.
-    fn is_stopped(&self, level: u8, options: CommandOptions, moment: Moment) -> bool
+    fn options_stop(&self, level: u8, options: CommandOptions, moment: Moment) -> bool
         ensures { result ≡ (consults_options level && not (continues self.now options.with_on_off moment.on_off options.options_mask options.options_override)) }
     {
         consults_options(level) && !self.should_continue(options, moment.on_off)
     }
 
-    #[tactic(auto, unfolding(crate::specs::Causes::move_to_level_tests, crate::specs::Targets::moved_to_level, transitions::specs::Types::time_or))]
+    #[tactic(auto, unfolding(crate::specs::Judge::move_to_level_tests, crate::specs::Targets::moved_to_level, transitions::specs::Types::time_or))]
     fn judge_move_to_level(&self, request: MoveToLevelRequest, moment: Moment) -> Course
-        ensures { follow (accept self.now moment.at) result moment.at moment.on_off ≡ unless_stopped (move_to_level_tests self.now moment.on_off request) (accept self.now moment.at) (moved_to_level (accept self.now moment.at) request moment.at moment.on_off) }
+        ensures { follow (accept self.now moment.at) result moment.at moment.on_off ≡ unless_options_stop (move_to_level_tests self.now moment.on_off request) (accept self.now moment.at) (moved_to_level (accept self.now moment.at) request moment.at moment.on_off) }
     {
-        if self.is_stopped(request.level, request.options, moment) {
+        if self.options_stop(request.level, request.options, moment) {
             return Course::Nothing;
         }
         let time = request.transition_time.unwrap_or(Tenths(0));
@@ -143,14 +150,14 @@ impl LevelControlState {
     }
 
     /// A scene without a value is not stopped, and does nothing.
-    #[tactic(auto, unfolding(crate::specs::Causes::scene_tests, crate::specs::Targets::recalled))]
+    #[tactic(auto, unfolding(crate::specs::Judge::scene_tests, crate::specs::Targets::recalled))]
     fn judge_scene(&self, request: SceneRequest, moment: Moment) -> Course
-        ensures { follow (accept self.now moment.at) result moment.at moment.on_off ≡ unless_stopped (scene_tests self.now moment.on_off request) (accept self.now moment.at) (recalled (accept self.now moment.at) request moment.at moment.on_off) }
+        ensures { follow (accept self.now moment.at) result moment.at moment.on_off ≡ unless_options_stop (scene_tests self.now moment.on_off request) (accept self.now moment.at) (recalled (accept self.now moment.at) request moment.at moment.on_off) }
     {
         let Some(level) = request.level else {
             return Course::Nothing;
         };
-        if self.is_stopped(level, SCENE, moment) {
+        if self.options_stop(level, SCENE, moment) {
             return Course::Nothing;
         }
         let time = request.transition_time.to_tenths_floor_saturating();
@@ -161,11 +168,11 @@ impl LevelControlState {
     }
 
     /// At its limit nothing happens, and a running task goes on.
-    #[tactic(auto, unfolding(crate::specs::Causes::move_tests, crate::specs::Moves::rate_by, crate::specs::Moves::begin_move, transitions::specs::Causes::first_cause))]
+    #[tactic(auto, unfolding(crate::specs::Judge::move_tests, crate::specs::Moves::rate_by, crate::specs::Moves::begin_move, transitions::specs::Causes::first_cause))]
     fn judge_move(&self, request: MoveRequest, moment: Moment) -> Result<Course, Refusal>
         ensures refused { IfErr result (λ cause. refusal_number cause ≡ tests_number (move_tests self.now moment.on_off request)) }
         ensures accepted { OnOk result (tests_number (move_tests self.now moment.on_off request) ≡ 0) }
-        ensures course { IfOk result (λ course. follow (accept self.now moment.at) course moment.at moment.on_off ≡ unless_stopped (move_tests self.now moment.on_off request) (accept self.now moment.at) (begin_move (accept self.now moment.at) request moment.at moment.on_off)) }
+        ensures course { IfOk result (λ course. follow (accept self.now moment.at) course moment.at moment.on_off ≡ unless_options_stop (move_tests self.now moment.on_off request) (accept self.now moment.at) (begin_move (accept self.now moment.at) request moment.at moment.on_off)) }
     {
         let rate = rate_in_force(
             request.rate,
@@ -176,7 +183,7 @@ impl LevelControlState {
         if !goes_on || at_limit(self.current_level, request.mode, self.settings.range) {
             return Ok(Course::Nothing);
         }
-        Ok(Course::Move(MoveCourse {
+        Ok(Course::Move(Motion {
             mode: request.mode,
             period: move_period(rate),
             with_on_off: request.options.with_on_off,
@@ -184,11 +191,11 @@ impl LevelControlState {
     }
 
     /// Its level is a target like any other; its time goes by the size that came out.
-    #[tactic(auto, unfolding(crate::specs::Causes::step_tests, crate::specs::Causes::step_overflows, crate::specs::Targets::stepped, crate::specs::Targets::stepped_level, crate::specs::Targets::stepped_time, transitions::specs::Causes::first_cause))]
+    #[tactic(auto, unfolding(crate::specs::Judge::step_tests, crate::specs::Judge::step_overflows, crate::specs::Targets::stepped, crate::specs::Targets::stepped_level, crate::specs::Targets::stepped_time, transitions::specs::Causes::first_cause))]
     fn judge_step(&self, request: StepRequest, moment: Moment) -> Result<Course, Refusal>
         ensures refused { IfErr result (λ cause. refusal_number cause ≡ tests_number (step_tests self.now moment.on_off request)) }
         ensures accepted { OnOk result (tests_number (step_tests self.now moment.on_off request) ≡ 0) }
-        ensures course { IfOk result (λ course. follow (accept self.now moment.at) course moment.at moment.on_off ≡ unless_stopped (step_tests self.now moment.on_off request) (accept self.now moment.at) (stepped (accept self.now moment.at) request moment.at moment.on_off)) }
+        ensures course { IfOk result (λ course. follow (accept self.now moment.at) course moment.at moment.on_off ≡ unless_options_stop (step_tests self.now moment.on_off request) (accept self.now moment.at) (stepped (accept self.now moment.at) request moment.at moment.on_off)) }
     {
         let size = request.step_size;
         if size == 0 {
