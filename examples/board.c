@@ -32,10 +32,13 @@ static const char *play(const uint8_t event[RECORD]) {
 
 int main(void) {
     uint8_t record[RECORD];
-    if (fread(record, RECORD, 1, stdin) != 1 || begin(record) != 0) return 1;
-    while (fread(record, RECORD, 1, stdin) == 1) {
+    size_t bytes = fread(record, 1, RECORD, stdin);
+    int32_t begun = bytes == RECORD ? begin(record) : -1;
+    if (begun < 0) printf("the settings are refused: %d\n", (int)begun);
+    while (begun == 0 && (bytes = fread(record, 1, RECORD, stdin)) == RECORD) {
         const char *line = play(record);
         puts(line != NULL ? line : "full");
     }
-    return 0;
+    if (begun == 0 && bytes > 0) puts("the last record is cut");
+    return begun < 0 || bytes > 0;
 }

@@ -1,6 +1,7 @@
 /* Calls the archive from C, and tries what a caller may get wrong. It is told on the command line how many random damaged
  * plays to try, and ends with a line `play.c: ok`, or with the first thing that is not as the header says. */
 #include "../include/level_control.h"
+#include <inttypes.h>
 #include <stdio.h>
 #include <stdlib.h>
 #include <string.h>
@@ -74,8 +75,8 @@ int main(int count, char **words) {
         if (n != (room < (size_t)whole ? -16 : whole)) fail("a room is answered wrongly", (long)room);
     }
 
-    /* random plays, damaged in up to four bytes */
-    uint64_t random = 1;
+    /* random plays, damaged in up to four bytes; the sum of all that they give is printed, and is the same on every processor */
+    uint64_t random = 1, sum = 14695981039346656037u;
     for (long i = 0; i < plays; i++) {
         uint8_t damaged[13 * RECORD];
         memcpy(damaged, records, sizeof damaged);
@@ -88,7 +89,9 @@ int main(int count, char **words) {
         int32_t n = call(damaged, length, 12 * 189);
         if (n < -4) fail("a damaged play is answered wrongly", i);
         if (n > 0 && out[n - 1] != '\n') fail("a sheet without a line feed", i);
+        sum = (sum ^ (uint32_t)n) * 1099511628211u;
+        for (int32_t b = 0; b < n; b++) sum = (sum ^ out[b]) * 1099511628211u;
     }
-    printf("play.c: ok, the text of 255 events has %d bytes; %ld damaged plays\n", (int)whole, plays);
+    printf("play.c: ok, the text of 255 events has %d bytes; %ld damaged plays, sum %016" PRIx64 "\n", (int)whole, plays, sum);
     return 0;
 }

@@ -20,26 +20,25 @@ use Rattle.level_control.specs.Starts.{distance, passes, step_to}
 use Rattle.level_control.specs.declared.state.LevelControlState.{LevelControlState}
 use Rattle.transitions.specs.declared.events.Command.TheVariants as command
 
--- the number of an event's kind, as its record has it
-abbrev pub kind_number : EventKind → ℕ
-kind_number kind.StartUp = 0
-kind_number (kind.Command (command.MoveToLevel r)) = 1
-kind_number (kind.Command (command.Move r)) = 2
-kind_number (kind.Command (command.Step r)) = 3
-kind_number (kind.Command (command.Stop r)) = 4
-kind_number (kind.Answer a) = 5
-kind_number kind.Wake = 6
-kind_number (kind.Command (command.OnOffChanged value)) = 7
-kind_number (kind.Command (command.Scene r)) = 8
-kind_number (kind.Command (command.DeviceUpdate level)) = 9
-kind_number (kind.Command command.DeviceStop) = 10
-kind_number (kind.Command (command.SetOnLevel level)) = 11
-kind_number (kind.Command (command.SetDefaultMoveRate r)) = 12
-kind_number (kind.Command (command.SetStartUpCurrentLevel level)) = 13
-kind_number (kind.Command command.FactoryReset) = 14
+-- the three kinds that have a turn of their own
 
-abbrev pub is_kind : ℕ → Event → Bool
-is_kind n e = eqb (kind_number e.kind) n
+abbrev pub is_start_up : EventKind → Bool
+is_start_up kind.StartUp = true
+is_start_up (kind.Answer a) = false
+is_start_up kind.Wake = false
+is_start_up (kind.Command c) = false
+
+abbrev pub is_answer : EventKind → Bool
+is_answer kind.StartUp = false
+is_answer (kind.Answer a) = true
+is_answer kind.Wake = false
+is_answer (kind.Command c) = false
+
+abbrev pub is_wake : EventKind → Bool
+is_wake kind.StartUp = false
+is_wake (kind.Answer a) = false
+is_wake kind.Wake = true
+is_wake (kind.Command c) = false
 
 -- a request to the device is open
 
@@ -119,10 +118,10 @@ command_rows s on (kind.Command command.FactoryReset) = []
 abbrev pub causes : LevelControlState → Event → List Row
 causes s e =
     row 5 (ltb e.moment.at.0 s.last_accepted.0 || ltb 4611686018427387903 e.moment.at.0)
-    ∷ row 6 (not (is_kind 5 e) && request_open s.task)
-    ∷ row 7 (is_kind 5 e && not (request_open s.task))
-    ∷ row 8 (is_kind 6 e && not (wait_over s.task e.moment.at))
-    ∷ row 9 (is_kind 0 e && s.started)
+    ∷ row 6 (not (is_answer e.kind) && request_open s.task)
+    ∷ row 7 (is_answer e.kind && not (request_open s.task))
+    ∷ row 8 (is_wake e.kind && not (wait_over s.task e.moment.at))
+    ∷ row 9 (is_start_up e.kind && s.started)
     ∷ command_rows s e.moment.on_off e.kind
 
 -- the number of the first cause that meets the event, or 0
