@@ -1,10 +1,11 @@
-//! Records of 20 bytes, to settings and events (docs/RULES.md, Records).
+//! Records of 20 bytes, to settings and events, and back (docs/RULES.md, Records).
 #![tactic(auto)]
 
 mod bytes;
 pub mod event_record;
 pub mod refusal;
 pub mod settings_record;
+pub mod written;
 
 ghost use Rattle.records.specs.Laws.{Laws};
 
