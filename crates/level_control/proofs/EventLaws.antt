@@ -12,8 +12,8 @@ use Rattle.transitions.specs.Causes.{event_tests, first_cause}
 use Rattle.transitions.specs.Fade.{wait_or_ask}
 use Rattle.transitions.specs.Tasks.{begin_fade, fade_last, fade_next, level_to_put_back, next_move, at_limit}
 use Rattle.transitions.specs.Types.{level_or}
-use Rattle.transitions.specs.Causes.{CommandTests}
-use Rattle.transitions.specs.Causes.{TurnTests}
+use Rattle.transitions.specs.declared.causes.CommandTests.{CommandTests}
+use Rattle.transitions.specs.declared.causes.TurnTests.{TurnTests}
 use Rattle.transitions.specs.declared.events.DeviceAnswer.{DeviceAnswer}
 use Rattle.transitions.specs.declared.events.DeviceAnswer.TheVariants as device
 use Rattle.transitions.specs.declared.events.Event.{Event}

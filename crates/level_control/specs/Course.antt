@@ -1,7 +1,7 @@
 -- Events and answers: what an accepted event is to do, in steps of the machine, which nobody is promised. `judge` and `handle` join them to `event_of`.
 use Rattle.std.specs.Prelude.{Bool, cond, []}
 use Rattle.units.specs.declared.Micros.{Micros}
-use Rattle.transitions.specs.Causes.{CommandTests}
+use Rattle.transitions.specs.declared.causes.CommandTests.{CommandTests}
 use Rattle.transitions.specs.Actions.{act}
 use Rattle.transitions.specs.declared.actions.ActionKind.TheVariants.{K}
 use Rattle.transitions.specs.declared.tasks.Wait.TheVariants as wait

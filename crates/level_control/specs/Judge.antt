@@ -8,8 +8,8 @@ use Rattle.transitions.specs.Options.{should_continue}
 use Rattle.transitions.specs.declared.types.OptionsBitmap.{OptionsBitmap}
 use Rattle.transitions.specs.Commands.{consults_options, is_overflow, is_invalid}
 use Rattle.transitions.specs.Tasks.{task_open, task_due}
-use Rattle.transitions.specs.Causes.{CommandTests}
-use Rattle.transitions.specs.Causes.{TurnTests}
+use Rattle.transitions.specs.declared.causes.CommandTests.{CommandTests}
+use Rattle.transitions.specs.declared.causes.TurnTests.{TurnTests}
 use Rattle.transitions.specs.declared.causes.Refusal.{Refusal}
 use Rattle.transitions.specs.declared.causes.Refusal.TheVariants.{LevelOutside}
 use Rattle.transitions.specs.declared.events.Command.{Command}

@@ -2,7 +2,7 @@
 //! Derived from level_control.rs of project-chip/rs-matter 43f61585a4 (see NOTICE), and changed.
 ghost use Rattle.std.specs.Prelude.{◌≡◌, [], ◌≤◌, length};
 ghost use Rattle.level_control.specs.Answer.{after, done};
-ghost use Rattle.level_control.specs.Fades.{asked, device_failed, fade_answered, fade_coupling, fade_ended, fade_goes_on, fade_missing, fade_told, fade_woken, move_to_level_transition};
+ghost use Rattle.level_control.specs.Fades.{asked, device_failed, ended_put_back, fade_answered, fade_coupling, fade_ended, fade_goes_on, fade_missing, fade_told, fade_woken, move_to_level_transition};
 ghost use Rattle.level_control.specs.Reports.{outcome_told};
 ghost use Rattle.level_control.specs.Targets.{quiet};
 
@@ -126,19 +126,28 @@ impl LevelControlState {
         self.asks(Task::Fade(fade), fade.counter, actions);
     }
 
-    /// The end of a fade. The off reaction's puts the level before back, without the device: P if it changes, and L.
-    #[tactic(auto, using(crate::proofs::ActionLaws::if_then), unfolding(crate::specs::Fades::fade_ended, crate::specs::Fades::ended_put_back, transitions::specs::Actions::reports_of))]
+    /// The end of a fade.
+    #[tactic(auto, unfolding(crate::specs::Fades::fade_ended, transitions::specs::Actions::reports_of))]
     fn fade_ended(&mut self, put_back: Option<u8>, actions: &mut Actions)
         requires { length actions.old ≤ 5 }
         ensures { done self.new actions.new ≡ after actions.old (fade_ended (quiet self.old) put_back) }
     {
-        self.task = Task::Rest;
-        let level = level_to_put_back(put_back, self.attributes.on_level);
-        if level.is_some() {
-            actions.push_if(self.current_level != level, ActionKind::P);
-            actions.push(ActionKind::L, 0);
-            self.current_level = level;
+        match level_to_put_back(put_back, self.attributes.on_level) {
+            Some(level) => self.ended_put_back(level, actions),
+            None => self.task = Task::Rest,
         }
+    }
+
+    /// The off reaction's puts the level before back, without the device: P if it changes, and L.
+    #[tactic(auto, using(crate::proofs::ActionLaws::if_then), unfolding(crate::specs::Fades::ended_put_back, transitions::specs::Actions::reports_of))]
+    fn ended_put_back(&mut self, level: u8, actions: &mut Actions)
+        requires { length actions.old ≤ 5 }
+        ensures { done self.new actions.new ≡ after actions.old (ended_put_back (quiet self.old) level) }
+    {
+        self.task = Task::Rest;
+        actions.push_if(self.current_level != Some(level), ActionKind::P);
+        actions.push(ActionKind::L, 0);
+        self.current_level = Some(level);
     }
 
     /// Before the end: the rest of the period is waited for, or the next request is made at once.

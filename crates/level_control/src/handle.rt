@@ -70,7 +70,7 @@ impl LevelControlState {
         }
     }
 
-    fn answered(
+    pub(crate) fn answered(
         &mut self,
         request: Request,
         answer: DeviceAnswer,

@@ -25,10 +25,10 @@ use transitions::types::{Level, Moment, OptionsBitmap};
 use units::{Micros, Tenths};
 
 /// The last clock time that is accepted.
-const LATEST: Micros = Micros((1 << 62) - 1);
+pub(crate) const LATEST: Micros = Micros((1 << 62) - 1);
 
 /// The options of a scene: a command without on/off that puts nothing over the stored ones.
-const SCENE: CommandOptions = CommandOptions {
+pub(crate) const SCENE: CommandOptions = CommandOptions {
     with_on_off: false,
     options_mask: OptionsBitmap(0),
     options_override: OptionsBitmap(0),
@@ -125,28 +125,34 @@ impl LevelControlState {
 
     /// With the settings and the stored options of the state.
     #[tactic(auto, unfolding(crate::specs::Judge::continues))]
-    fn should_continue(&self, options: CommandOptions, on_off: bool) -> bool
+    pub(crate) fn should_continue(&self, options: CommandOptions, on_off: bool) -> bool
         ensures { result ≡ continues self.now options.with_on_off on_off options.options_mask options.options_override }
     {
         options.should_continue(self.settings.coupled, on_off, self.attributes.options)
     }
 
     /// Whether the options stop a command to a level: of 255 they are not looked at.
-    fn options_stop(&self, level: u8, options: CommandOptions, moment: Moment) -> bool
-        ensures { result ≡ (consults_options level && not (continues self.now options.with_on_off moment.on_off options.options_mask options.options_override)) }
+    pub(crate) fn options_stop(&self, level: u8, options: CommandOptions, on_off: bool) -> bool
+        ensures { result ≡ (consults_options level && not (continues self.now options.with_on_off on_off options.options_mask options.options_override)) }
     {
-        consults_options(level) && !self.should_continue(options, moment.on_off)
+        consults_options(level) && !self.should_continue(options, on_off)
     }
 
     #[tactic(auto, unfolding(crate::specs::Judge::move_to_level_tests, crate::specs::Targets::moved_to_level, transitions::specs::Types::time_or))]
     fn judge_move_to_level(&self, request: MoveToLevelRequest, moment: Moment) -> Course
         ensures { follow (accept self.now moment.at) result moment.at moment.on_off ≡ unless_options_stop (move_to_level_tests self.now moment.on_off request) (accept self.now moment.at) (moved_to_level (accept self.now moment.at) request moment.at moment.on_off) }
     {
-        if self.options_stop(request.level, request.options, moment) {
+        if self.options_stop(request.level, request.options, moment.on_off) {
             return Course::Nothing;
         }
         let time = request.transition_time.unwrap_or(Tenths(0));
-        Course::GoTo(self.request_to(request.level, time, request.options.with_on_off))
+        Course::GoTo(self.request_to(
+            request.level,
+            time,
+            request.options.with_on_off,
+            false,
+            false,
+        ))
     }
 
     /// A scene without a value is not stopped, and does nothing.
@@ -157,14 +163,11 @@ impl LevelControlState {
         let Some(level) = request.level else {
             return Course::Nothing;
         };
-        if self.options_stop(level, SCENE, moment) {
+        if self.options_stop(level, SCENE, moment.on_off) {
             return Course::Nothing;
         }
         let time = request.transition_time.to_tenths_floor_saturating();
-        Course::GoTo(FadeRequest {
-            scene_apply: true,
-            ..self.request_to(level, time, false)
-        })
+        Course::GoTo(self.request_to(level, time, false, true, false))
     }
 
     /// At its limit nothing happens, and a running task goes on.
@@ -207,11 +210,11 @@ impl LevelControlState {
         let level = self.current_level.ok_or(Refusal::InvalidInState)?;
         let target = step_level(request.mode, level, size, self.settings.range);
         let time = step_time(request.transition_time, target.abs_diff(level), size)?;
-        Ok(Course::GoTo(self.request_to(target, time, request.options.with_on_off)))
+        Ok(Course::GoTo(self.request_to(target, time, request.options.with_on_off, false, false)))
     }
 
     /// A known level that is to be set lies within MIN..MAX.
-    fn judge_level(&self, level: Level) -> Result<Level, Refusal>
+    pub(crate) fn judge_level(&self, level: Level) -> Result<Level, Refusal>
         ensures { result ≡ level_judged self.now level }
     {
         match level {

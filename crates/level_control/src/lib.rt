@@ -5,16 +5,18 @@
 
 pub mod answer;
 mod asking;
+pub mod causes;
 mod coupling;
 mod errors;
 mod fades;
 pub mod handle;
 mod judge;
+pub mod kinds;
 mod moves;
 mod reactions;
 mod reports;
 mod start_up;
 pub mod state;
-mod targets;
+pub mod targets;
 pub mod theorems;
 mod updates;

@@ -40,10 +40,7 @@ impl LevelControlState {
         ensures { result ≡ request_to self.now self.now.settings.range.min (off_time self.now) true false true }
     {
         let time = self.reaction_time(self.attributes.off_transition_time);
-        FadeRequest {
-            puts_back: true,
-            ..self.request_to(self.settings.range.min, time, true)
-        }
+        self.request_to(self.settings.range.min, time, true, false, true)
     }
 
     /// The device's answer to the request for MIN. It is no end.
@@ -76,7 +73,10 @@ impl LevelControlState {
     {
         let time = self.reaction_time(self.attributes.on_transition_time);
         match self.attributes.on_level.or(reaction.before) {
-            Some(level) => self.go_to(self.request_to(level, time, true), moment, actions),
+            Some(level) => {
+                let request = self.request_to(level, time, true, false, false);
+                self.go_to(request, moment, actions);
+            }
             None => self.fails(ErrorCode::Failure, actions),
         }
     }

@@ -1,6 +1,6 @@
 //! A fade to a target, by a command, a step, a scene or a reaction; and stop.
 //! Derived from level_control.rs of project-chip/rs-matter 43f61585a4 (see NOTICE), and changed.
-ghost use Rattle.std.specs.Prelude.{◌≡◌, ◌≤◌, false, length};
+ghost use Rattle.std.specs.Prelude.{◌≡◌, ◌≤◌, length};
 ghost use Rattle.level_control.specs.Answer.{after, done};
 ghost use Rattle.level_control.specs.Targets.{go_to, quiet, request_to, stopped};
 
@@ -13,21 +13,24 @@ use transitions::types::Moment;
 use units::{Millis, Tenths};
 
 impl LevelControlState {
-    /// A fade to a level under the rules for targets: a command's, with or without on/off.
-    pub(crate) fn request_to(
+    /// A fade to a level under the rules for targets: with or without on/off, a scene's or not, and whether the level before is put
+    /// back at its end.
+    pub fn request_to(
         &self,
         level: u8,
         transition_time: Tenths,
         with_on_off: bool,
+        scene_apply: bool,
+        puts_back: bool,
     ) -> FadeRequest
-        ensures { result ≡ request_to self.now level transition_time with_on_off false false }
+        ensures { result ≡ request_to self.now level transition_time with_on_off scene_apply puts_back }
     {
         FadeRequest {
             target: target_level(level, self.settings.range),
             transition_time,
             with_on_off,
-            scene_apply: false,
-            puts_back: false,
+            scene_apply,
+            puts_back,
         }
     }
 

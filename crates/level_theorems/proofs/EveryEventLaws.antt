@@ -11,7 +11,9 @@ use borrow.Author.Tests.{eqb-true, eqb-false, ltb-false}
 use lib.Dec.{eqb}
 use Rattle.units.specs.Units.{before, micros}
 use Rattle.units.specs.declared.Micros.{Micros}
-use Rattle.transitions.specs.Causes.{Row, rows, first_cause, event_tests, TurnTests, CommandTests}
+use Rattle.transitions.specs.Causes.{Row, rows, first_cause, event_tests}
+use Rattle.transitions.specs.declared.causes.CommandTests.{CommandTests}
+use Rattle.transitions.specs.declared.causes.TurnTests.{TurnTests}
 use Rattle.transitions.specs.Actions.{action, act}
 use Rattle.transitions.specs.Search.{NoneOf, First}
 use Rattle.transitions.specs.declared.actions.Action.{Action}

@@ -7,7 +7,7 @@ use Rattle.transitions.specs.Actions.{action, act}
 use Rattle.transitions.specs.Tasks.{fade_last}
 use Rattle.transitions.specs.Types.{is_missing}
 use Rattle.transitions.specs.Search.{NoneOf, First}
-use Rattle.transitions.specs.Causes.{Tests}
+use Rattle.transitions.specs.declared.causes.Tests.{Tests}
 use Rattle.transitions.specs.declared.actions.Action.{Action}
 use Rattle.transitions.specs.declared.actions.ActionKind.TheVariants.{W, X}
 use Rattle.transitions.specs.declared.causes.Refusal.{Refusal}

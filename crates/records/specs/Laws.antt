@@ -1,7 +1,8 @@
 -- Records, as laws for every list of bytes, by which the definitions of this folder can be believed.
 use Rattle.std.specs.Prelude.{ℕ, ◌+◌, ◌/◌, ◌%◌, ◌^◌, ◌≤◌, ◌<◌, Bool, false, ◌&&◌, ◌≡◌, ◌↔◌, List, [], ◌∷◌, nat_lt, nat_eq, get_or, Some, Ok}
 use Rattle.units.specs.Units.{micros}
-use Rattle.transitions.specs.Causes.{Tests, first_cause, no_command_tests, no_turn_tests}
+use Rattle.transitions.specs.Causes.{first_cause, no_command_tests, no_turn_tests}
+use Rattle.transitions.specs.declared.causes.Tests.{Tests}
 use Rattle.transitions.specs.declared.events.Event.{Event}
 use Rattle.transitions.specs.declared.settings.Settings.{Settings}
 use Rattle.records.specs.Bytes.{byte_at, low_first, le16, le32, le64, is_set}

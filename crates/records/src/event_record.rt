@@ -5,7 +5,7 @@ ghost use Rattle.records.specs.EventRecord.{answer, bare, command_options, devic
 ghost use Rattle.records.specs.Layout.{event_layouts, layout, Keeps, Marked};
 
 use crate::RECORD;
-use crate::bytes::{array_at, clock_time, flag, marked, tenths_at, zeros_from};
+use crate::bytes::{clock_time, flag, marked, tenths_at, u32_at, zeros_from};
 use transitions::events::{
     Command, DeviceAnswer, Event, EventKind, MoveRequest, MoveToLevelRequest, SceneRequest,
     StepRequest,
@@ -153,7 +153,7 @@ fn read_scene(bytes: &[u8; RECORD]) -> Option<Command>
     ensures { result ≡ scene bytes.now }
 {
     let present = flag(bytes[12])?;
-    let millis = u32::from_le_bytes(array_at(bytes, 14));
+    let millis = u32_at(bytes, 14);
     zeros_from(bytes, 18).then_some(Command::Scene(SceneRequest {
         level: present.then_some(bytes[13]),
         transition_time: Millis(millis),

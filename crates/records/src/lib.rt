@@ -1,7 +1,7 @@
 //! Records of 20 bytes, to settings and events, and back (docs/RULES.md, Records).
 #![tactic(auto)]
 
-mod bytes;
+pub mod bytes;
 pub mod event_record;
 pub mod refusal;
 pub mod settings_record;

@@ -10,7 +10,7 @@ use transitions::events::{Command, DeviceAnswer, Event, EventKind};
 use transitions::options::CommandOptions;
 use transitions::settings::Settings;
 use transitions::types::{Mode, Time};
-use units::Micros;
+use units::{Micros, Tenths};
 
 /// The record of an event (docs/RULES.md, Records): the clock time in microseconds, a transition time in tenths of a
 /// second, a scene's in milliseconds, a rate in levels a second. A value that is missing is marked so, and its bytes
@@ -31,7 +31,7 @@ pub fn write_event(event: Event) -> [u8; RECORD]
 fn clock_bytes(at: Micros) -> [u8; 8]
     ensures { result ≡ bytes_of 8 at.0 }
 {
-    at.0.to_le_bytes()
+    at.to_le_bytes()
 }
 
 /// Byte 2, and the bytes from 12 on. What a kind holds fits them: each value is of a type as wide as its bytes.
@@ -81,7 +81,7 @@ fn command_bytes(command: Command) -> (u8, [u8; 8])
         Command::OnOffChanged(on) => (7, [on.into(), 0, 0, 0, 0, 0, 0, 0]),
         Command::Scene(request) => {
             let [known, level] = known_bytes(request.level);
-            let [lowest, second, third, highest] = request.transition_time.0.to_le_bytes();
+            let [lowest, second, third, highest] = request.transition_time.to_le_bytes();
             (8, [known, level, lowest, second, third, highest, 0, 0])
         }
         Command::DeviceUpdate(level) => (9, [level, 0, 0, 0, 0, 0, 0, 0]),
@@ -144,7 +144,7 @@ fn tenths_bytes(time: Time) -> [u8; 2]
     ensures bytes { result ≡ bytes_of 2 (time_tenths time) }
     ensures fits { TimeFits time }
 {
-    time.map_or(0, |time| time.0).to_le_bytes()
+    time.unwrap_or(Tenths(0)).to_le_bytes()
 }
 
 /// With on/off, the mask and the override.
@@ -176,7 +176,7 @@ pub fn write_settings(settings: Settings) -> [u8; RECORD]
     ensures read { Allowed settings → settings_read result ≡ Ok settings }
 {
     let attributes = settings.attributes;
-    let [common_low, common_high] = attributes.on_off_transition_time.0.to_le_bytes();
+    let [common_low, common_high] = attributes.on_off_transition_time.to_le_bytes();
     let [on_low, on_high] = tenths_bytes(attributes.on_transition_time);
     let [off_low, off_high] = tenths_bytes(attributes.off_transition_time);
     [

@@ -7,7 +7,8 @@ use mathlib.Core.List.{List, [], ◌∷◌, ◌++◌}
 use borrow.Author.Tests.{leb-true, leb-false, lt-ltb, le-ltb}
 use lib.Dec.{eqb, ltb, leb}
 use lib.ListN.{length, take, drop}
-use Rattle.transitions.specs.Causes.{Tests, first_cause, no_command_tests, no_turn_tests}
+use Rattle.transitions.specs.Causes.{first_cause, no_command_tests, no_turn_tests}
+use Rattle.transitions.specs.declared.causes.Tests.{Tests}
 use Rattle.transitions.specs.declared.settings.Settings.{Settings}
 use Rattle.records.specs.Bytes.{byte_at}
 use Rattle.records.specs.SettingsRecord.{settings_read, settings_read_number, settings_wrong, refusal_number}

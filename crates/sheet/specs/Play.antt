@@ -7,7 +7,8 @@ use Rattle.records.specs.SettingsRecord.{settings_read, settings_wrong}
 use Rattle.records.specs.SettingsRecord.{refusal_number}
 use Rattle.records.specs.declared.refusal.RecordRefusal.{RecordRefusal}
 use Rattle.records.specs.declared.refusal.RecordRefusal.TheVariants.{RecordWrong}
-use Rattle.transitions.specs.Causes.{Tests, no_command_tests, no_turn_tests}
+use Rattle.transitions.specs.Causes.{no_command_tests, no_turn_tests}
+use Rattle.transitions.specs.declared.causes.Tests.{Tests}
 use Rattle.transitions.specs.declared.settings.Settings.{Settings}
 use Rattle.level_control.specs.State.{new_state}
 use Rattle.sheet.specs.declared.refusal.PlayRefusal.{PlayRefusal}

@@ -2,7 +2,7 @@
 #![tactic(auto)]
 
 pub mod key;
-mod lines;
+pub mod lines;
 pub mod play;
 pub mod refusal;
 

@@ -3,7 +3,7 @@ ghost use Rattle.std.specs.Prelude.{◌≡◌, ◌≤◌, [], ◌∷◌, if◌th
 ghost use Rattle.transitions.specs.Causes.{first_cause};
 ghost use Rattle.sheet.specs.Play.{call_tests, length_ok, play_number, play_of, play_values, returned, text_asked, written};
 
-use crate::lines::fit;
+use crate::lines::fit_new;
 use crate::refusal::PlayRefusal;
 use records::RECORD;
 use records::refusal::RecordRefusal;
@@ -35,7 +35,7 @@ pub fn play(records: &[u8], out: &mut [u8]) -> Result<usize, PlayRefusal>
     }
     let (first, events) = records.split_at(RECORD);
     let settings = read_settings(first)?;
-    fit(events, &settings, out)
+    fit_new(events, &settings, out)
 }
 
 /// The bytes written, or minus the number of the refusal: what the C entry gives, which `sheet_c` exports.

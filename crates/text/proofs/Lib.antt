@@ -1,5 +1,6 @@
 -- The files of lemmas, each over those before it.
 pub mod WriteLaws
+pub mod CopyLaws
 pub mod DigitLaws
 pub mod LineLaws
 pub mod ShowLaws

@@ -5,10 +5,11 @@ use mathlib.Core.List.{List, [], ◌∷◌, ◌++◌, append_assoc}
 use native.Mathlib.Nat.{add-zero, add-suc, suc-add}
 use native.Mathlib.Omega.{arith, min_cases}
 use borrow.Author.Tests.{le-leb, lt-leb}
-use lib.ListN.{length, set, take, drop, length-append}
+use lib.ListN.{length, set, take, drop, length-append, length-take, take-append-drop}
 use lib.Seq.{sets, sets-eq, length-sets, set_out, drop-drop}
 use borrow.Rule.Slice.PartMut.{put_mid}
 use Rattle.std.proofs.lemmas.Grind.{common_steps}
+use Rattle.std.proofs.lemmas.List.{drop_all}
 use Rattle.text.specs.Text.{Room, Wrote, most, put_whole}
 
 -- past the end nothing is written
@@ -38,6 +39,24 @@ then {old} {at} {a} {mid} {p} {b} {new} {r} h w v = record {
 -- nothing written
 pub none_wrote : {old : List ℕ} {at : ℕ} → at ≤ most → Wrote old at [] old at
 none_wrote h = record { bytes = refl; next = omega arith }
+
+-- as much of a text as the slice reaches, copied into its part
+pub part_put : (old text new : List ℕ) (at k : ℕ) → at < length old → k ≡ min (length text) (length old - at) → new ≡ take k text
+    → put_mid at (at + k - at) old new ≡ sets old at text
+part_put old text new at k h e n =
+    let size : length (take k text) ≡ k = length-take k text ∙ omega (arith, e) in
+    let taken : at + k - at ≡ k = omega arith in
+    let within : at + length (take k text) ≤ length old = omega (arith, e, size) in
+    let more : sets (sets old at (take k text)) (at + length (take k text)) (drop k text) ≡ sets old at (take k text) =
+    min_cases (length text) (length old - at) (sets (sets old at (take k text)) (at + length (take k text)) (drop k text) ≡ sets old at (take k text))
+    (λ g m. rw (drop_all k text (omega (arith, e, m))) refl)
+    (λ g m. sets_out (sets old at (take k text)) (at + length (take k text)) (drop k text) (simp length-sets (omega (arith, e, m, size)))) in
+    let whole : sets old at text ≡ sets old at (take k text) =
+    ap (sets old at) (sym (take-append-drop k text)) ∙ sym (sets_append old at (take k text) (drop k text)) ∙ more in
+    rw (n, taken, whole, sets-eq (take k text) old at within, size, drop-drop k at old)
+    (sym (append_assoc (take at old) (take k text) (drop (at + k) old)))
+
+pub ruleset parts = (part_put, sets_out, common_steps)
 
 -- Texts where they have room.
 

@@ -5,6 +5,7 @@ ghost use Rattle.text.specs.Line.{action_text, actions_text, letter_of, level_te
 ghost use Rattle.text.specs.Text.{ascii, digits, put_whole};
 ghost use Rattle.text.specs.declared.line.TheConstants.{LONGEST};
 
+use crate::copying::copy_in_blocks;
 use itoa::write_digits;
 use std::marker::Model;
 use transitions::actions::{Action, ActionKind, Actions};
@@ -93,7 +94,7 @@ impl Line {
     {
         let end = at.saturating_add(self.length);
         if end <= out.len() {
-            out[at..end].copy_from_slice(self.as_slice());
+            copy_in_blocks(&mut out[at..end], self.as_slice());
         }
         end
     }

@@ -33,7 +33,7 @@ use Rattle.transitions.specs.Laws.{Laws}
 use Rattle.transitions.specs.Types.{Level}
 use Rattle.transitions.specs.Types.{Rate}
 use Rattle.transitions.specs.declared.types.OptionsBitmap.{OptionsBitmap}
-use Rattle.transitions.specs.Causes.{Tests}
+use Rattle.transitions.specs.declared.causes.Tests.{Tests}
 use Rattle.transitions.specs.declared.actions.ActionKind.TheVariants.{C}
 use Rattle.transitions.proofs.ActionLaws.{full}
 use Rattle.transitions.proofs.SearchLaws.{found, missed, either}

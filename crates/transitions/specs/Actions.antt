@@ -1,8 +1,8 @@
 -- Events and answers: the actions of an answer, and what is told of a state.
-use Rattle.std.specs.Prelude.{ℕ, Bool, false, cond, Option, Some, None, List, [], ◌∷◌, ◌++◌, take}
+use Rattle.std.specs.Prelude.{ℕ, Bool, false, cond, Option, Some, None, List, [], ◌∷◌, ◌++◌, take, replicate}
 use Rattle.transitions.specs.declared.actions.Action.{Action}
 use Rattle.transitions.specs.declared.actions.ActionKind.{ActionKind}
-use Rattle.transitions.specs.declared.actions.ActionKind.TheVariants.{P, S, C, L, R}
+use Rattle.transitions.specs.declared.actions.ActionKind.TheVariants.{P, S, C, L, R, X}
 
 abbrev pub action : ActionKind → ℕ → Action
 action k v = record { kind = k; value = v }
@@ -19,6 +19,10 @@ act_if test k = cond test (act k 0) []
 abbrev pub act_coupled : Option Bool → List Action
 act_coupled (Some wanted) = act C (cond wanted 1 0)
 act_coupled None = []
+
+-- slots that are not filled
+abbrev pub free_slots : ℕ → List Action
+free_slots n = replicate n (action X 0)
 
 -- a list holds seven actions, and drops what comes after
 abbrev pub held : List Action → List Action

@@ -1,38 +1,11 @@
 -- Causes: the table, and the first of its rows that applies.
 use Rattle.std.specs.Prelude.{ℕ, Bool, false, List, [], ◌∷◌}
 use Rattle.transitions.specs.Search.{first_where}
+use Rattle.transitions.specs.declared.causes.CommandTests.{CommandTests}
 use Rattle.transitions.specs.declared.causes.Refusal.{Refusal}
 use Rattle.transitions.specs.declared.causes.Refusal.TheVariants.{TimeRefused, AnswerOpen, NoAnswerOpen, WakeRefused, StartUpLate, InvalidCommand, InvalidInState, ProductTooLarge, LevelOutside, RateZero}
-
--- what the tests of a call say: of its settings, of a record, of the output
-pub record CallTests : Type 0 where
-  pub record_wrong : Bool
-  pub max_above_254 : Bool
-  pub min_above_max : Bool
-  pub lighting_min_0 : Bool
-  pub output_short : Bool
-
--- what the tests say that ask whether an event's turn has come
-pub record TurnTests : Type 0 where
-  pub time_refused : Bool
-  pub answer_open : Bool
-  pub no_answer_open : Bool
-  pub wake_refused : Bool
-  pub start_up_late : Bool
-
--- what the tests of a command's own values say. The options stop a command without refusing it
-pub record CommandTests : Type 0 where
-  pub invalid_command : Bool
-  pub stopped_by_options : Bool
-  pub invalid_in_state : Bool
-  pub product_too_large : Bool
-  pub level_outside : Bool
-  pub rate_0 : Bool
-
-pub record Tests : Type 0 where
-  pub call : CallTests
-  pub turn : TurnTests
-  pub command : CommandTests
+use Rattle.transitions.specs.declared.causes.Tests.{Tests}
+use Rattle.transitions.specs.declared.causes.TurnTests.{TurnTests}
 
 -- a row: its number, and what its test says
 pub record Row : Type 0 where

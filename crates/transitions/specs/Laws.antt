@@ -28,7 +28,7 @@ use Rattle.transitions.specs.Types.{Rate}
 use Rattle.transitions.specs.declared.types.OptionsBitmap.{OptionsBitmap}
 use Rattle.transitions.specs.Actions.{held}
 use Rattle.transitions.specs.declared.actions.Action.{Action}
-use Rattle.transitions.specs.Causes.{Tests}
+use Rattle.transitions.specs.declared.causes.Tests.{Tests}
 use Rattle.transitions.specs.declared.actions.ActionKind.TheVariants.{C}
 use Rattle.transitions.specs.declared.tasks.Begin.TheVariants.{Reached, Starts}
 use Rattle.transitions.specs.declared.tasks.Fade.{Fade}

@@ -1,11 +1,9 @@
 //! What an event does, in order (docs/RULES.md, Events and answers).
 //! Derived from level_control.rs of project-chip/rs-matter 43f61585a4 (see NOTICE), and changed: its calls are actions here.
-ghost use Rattle.std.specs.Prelude.{◌≡◌, ◌≤◌, List, [], ◌++◌, length};
+ghost use Rattle.std.specs.Prelude.{◌≡◌, ◌≤◌, [], ◌++◌, length};
 ghost use Rattle.transitions.specs.Actions.{held, held_coupled, held_if};
 ghost use Rattle.transitions.specs.Actions.{act};
-ghost use Rattle.transitions.specs.declared.actions.Action.{Action};
 
-use arrayvec::ArrayVec;
 use std::marker::Model;
 
 /// D asks the device for a level, P stores a changed level, S is the scene's notice, C sends on/off to the coupled
@@ -36,16 +34,36 @@ pub struct Action {
     pub value: u64,
 }
 
-/// The actions of an answer, at most seven.
-#[derive(Debug, Drop)]
+/// The actions of an answer, at most seven: an array beside the number filled.
+#[derive(Clone, Copy, Debug)]
 pub struct Actions {
-    list: ArrayVec<Action, 7>,
+    slots: [Action; 7],
+    count: usize,
 }
 
+// The slots that are not filled hold the default, so that the list gives the fields back: what is `Copy` asks for that.
 impl Model for Actions {
+    ghost use Rattle.std.specs.Prelude.{◌≡◌, ◌≤◌, ◌-◌, List, ◌++◌, length, take, drop};
+    ghost use Rattle.std.proofs.Common.{sym, ap, ◌∙◌, length-take-le, take-append-drop};
+    ghost use Rattle.transitions.specs.Actions.{free_slots};
+    ghost use Rattle.transitions.specs.declared.actions.Action.{Action};
+
     ghost Value = { List Action };
 
-    ghost view = { λ actions. actions.list.items };
+    ghost view = { λ actions. take actions.count actions.slots };
+
+    ghost invariant = { λ actions. (actions.count ≤ length actions.slots) × (length actions.slots ≡ 7) × (drop actions.count actions.slots ≡ free_slots (7 - actions.count)) };
+
+    ghost inverse = { λ list. record { slots = list ++ free_slots (7 - length list); count = length list } };
+
+    ghost inverse_ok = { λ actions h i. record {
+      slots = (
+          ap (λ n. take actions.count actions.slots ++ free_slots (7 - n)) (length-take-le actions.count actions.slots h.0)
+          ∙ ap (λ l. take actions.count actions.slots ++ l) (sym h.2)
+          ∙ take-append-drop actions.count actions.slots
+          ) i;
+      count = length-take-le actions.count actions.slots h.0 i;
+    } };
 }
 
 impl Actions {
@@ -54,7 +72,8 @@ impl Actions {
         ensures { result ≡ [] }
     {
         Actions {
-            list: ArrayVec::new(),
+            slots: [Action::default(); 7],
+            count: 0,
         }
     }
 
@@ -62,7 +81,7 @@ impl Actions {
     pub fn clear(&mut self)
         ensures { self.new ≡ [] }
     {
-        self.list.clear();
+        *self = Actions::new();
     }
 
     /// Adds an action. A full list leaves it out; no event gives more than seven (`every_event_holds`).
@@ -70,8 +89,9 @@ impl Actions {
     pub fn push(&mut self, kind: ActionKind, value: u64)
         ensures { self.new ≡ held (self.old ++ act kind value) }
     {
-        if !self.list.is_full() {
-            self.list.push(Action { kind, value });
+        if self.count < self.slots.len() {
+            self.slots[self.count] = Action { kind, value };
+            self.count += 1;
         }
     }
 
@@ -98,6 +118,6 @@ impl Actions {
         ensures all { result.now ≡ self.now }
         ensures within { length result.now ≤ 7 }
     {
-        self.list.as_slice()
+        &self.slots[..self.count]
     }
 }

@@ -1,5 +1,6 @@
 -- Units: tenths, milliseconds and microseconds, and what is computed of them.
-use Rattle.std.specs.Prelude.{ℕ, ◌+◌, ◌-◌, ◌*◌, ◌/◌, ◌%◌, min, Bool, cond, ltb, leb, eqb, List, [], ◌∷◌, Option, Some, None}
+use Rattle.std.specs.Prelude.{ℕ, ◌+◌, ◌-◌, ◌*◌, ◌/◌, ◌%◌, min, Bool, ◌&&◌, cond, if◌then◌else◌, ltb, leb, eqb, nat_eq, nat_le, List, [], ◌∷◌, Option, Some, None}
+use Rattle.std.specs.Int.{w16, w32, w64, to_le_bytes}
 use Rattle.units.specs.Numbers.{apart, div_ceil}
 use Rattle.units.specs.declared.Tenths.{Tenths}
 use Rattle.units.specs.declared.Millis.{Millis}
@@ -31,6 +32,45 @@ tenths_down m = tenths (min 65535 (m.0 / 100))
 -- milliseconds as microseconds, exactly
 abbrev pub millis_to_micros : Millis → Micros
 millis_to_micros m = micros (m.0 * 1000)
+
+-- microseconds as tenths, each of 100,000, where they are whole and 16 bits hold them
+abbrev pub micros_to_tenths : Micros → Option Tenths
+micros_to_tenths u = if nat_eq (u.0 % 100000) 0 && nat_le (u.0 / 100000) 65535 then Some (tenths (u.0 / 100000)) else None
+
+-- 1, a time that has no such tenths
+abbrev pub tenths_number : Option Tenths → ℕ
+tenths_number (Some t) = 0
+tenths_number None = 1
+
+-- the tenths that are given
+abbrev pub tenths_values : Option Tenths → List ℕ
+tenths_values (Some t) = t.0 ∷ []
+tenths_values None = []
+
+-- microseconds as milliseconds, where they are whole and 32 bits hold them
+abbrev pub micros_to_millis : Micros → Option Millis
+micros_to_millis u = if nat_eq (u.0 % 1000) 0 && nat_le (u.0 / 1000) 4294967295 then Some (millis (u.0 / 1000)) else None
+
+-- 1, a time that has no such milliseconds
+abbrev pub millis_number : Option Millis → ℕ
+millis_number (Some m) = 0
+millis_number None = 1
+
+-- the milliseconds that are given
+abbrev pub millis_values : Option Millis → List ℕ
+millis_values (Some m) = m.0 ∷ []
+millis_values None = []
+
+-- The bytes of a unit's number, the low one first.
+
+abbrev pub tenths_bytes : Tenths → List ℕ
+tenths_bytes t = to_le_bytes w16 t.0
+
+abbrev pub millis_bytes : Millis → List ℕ
+millis_bytes m = to_le_bytes w32 m.0
+
+abbrev pub micros_bytes : Micros → List ℕ
+micros_bytes u = to_le_bytes w64 u.0
 
 -- Tests and sums within a unit.
 

@@ -2,9 +2,11 @@
 //! given where milliseconds are meant; a conversion's name says how it rounds. Units are computed by these functions alone.
 #![tactic(auto)]
 
-ghost use Rattle.std.specs.Prelude.{◌≡◌, ◌*◌, ◌/◌, [], ◌∷◌, if◌then◌else◌, nat_lt};
+pub mod numbers;
+
+ghost use Rattle.std.specs.Prelude.{◌≡◌, ◌*◌, ◌/◌, ◌%◌, ◌&&◌, [], ◌∷◌, if◌then◌else◌, nat_eq, nat_le, nat_lt};
 ghost use Rattle.units.specs.Laws.{Laws};
-ghost use Rattle.units.specs.Units.{tenths_apart, scaled_floor, scaled_number, scaled_values, tenths_to_millis, millis_less, millis_divided, tenths_up, tenths_down, millis_to_micros, later, elapsed};
+ghost use Rattle.units.specs.Units.{tenths_apart, scaled_floor, scaled_number, scaled_values, tenths_to_millis, tenths_bytes, millis_less, millis_divided, tenths_up, tenths_down, millis_to_micros, millis_bytes, micros_to_tenths, tenths_number, tenths_values, micros_to_millis, millis_number, millis_values, micros_bytes, later, elapsed};
 
 /// Tenths of a second, as the attributes hold them.
 #[derive(Clone, Copy, Debug, PartialEq, Eq, PartialOrd, Ord)]
@@ -45,6 +47,13 @@ impl Tenths {
     {
         Millis(u32::from(self.0) * 100)
     }
+
+    /// The bytes of its number, the low one first.
+    pub fn to_le_bytes(self) -> [u8; 2]
+        ensures { result ≡ tenths_bytes self }
+    {
+        u16::to_le_bytes(self.0)
+    }
 }
 
 impl Millis {
@@ -59,14 +68,14 @@ impl Millis {
     pub fn div_floor(self, divisor: u8) -> Millis
         ensures { result ≡ millis_divided self divisor }
     {
-        Millis(self.0.checked_div(u32::from(divisor)).unwrap_or(0))
+        Millis(numbers::div_floor(self.0, u32::from(divisor)))
     }
 
     /// Rounded up. Above 6,553,500 ms the low 16 bits are kept, as the source's `as u16` does.
     pub fn to_tenths_ceil(self) -> Tenths
         ensures { result ≡ tenths_up self }
     {
-        let tenths = self.0.div_ceil(100);
+        let tenths = numbers::div_ceil(self.0, 100);
         // What is left of the division fits.
         Tenths((tenths % 65_536) as u16)
     }
@@ -84,6 +93,13 @@ impl Millis {
     {
         Micros(u64::from(self.0) * 1000)
     }
+
+    /// The bytes of its number, the low one first.
+    pub fn to_le_bytes(self) -> [u8; 4]
+        ensures { result ≡ millis_bytes self }
+    {
+        u32::to_le_bytes(self.0)
+    }
 }
 
 impl Micros {
@@ -99,6 +115,35 @@ impl Micros {
         ensures { result ≡ elapsed earlier self }
     {
         Micros(self.0.saturating_sub(earlier.0))
+    }
+
+    /// Exact. None where the time is not of whole tenths, or is above 6,553,500,000 µs, the most that 16 bits hold.
+    pub fn to_tenths(self) -> Option<Tenths>
+        ensures value { result ≡ micros_to_tenths self }
+        ensures number { tenths_number result ≡ (if nat_eq (self.0 % 100000) 0 && nat_le self.0 6553500000 then 0 else 1) }
+        ensures values { tenths_values result
+            ≡ (if nat_eq (self.0 % 100000) 0 && nat_le self.0 6553500000 then self.0 / 100000 ∷ [] else []) }
+    {
+        let tenths = u16::try_from(self.0 / 100_000).ok()?;
+        (self.0 % 100_000 == 0).then_some(Tenths(tenths))
+    }
+
+    /// Exact. None where the time is not of whole milliseconds, or is above 4,294,967,295,000 µs, the most that 32 bits hold.
+    pub fn to_millis(self) -> Option<Millis>
+        ensures value { result ≡ micros_to_millis self }
+        ensures number { millis_number result ≡ (if nat_eq (self.0 % 1000) 0 && nat_le self.0 4294967295000 then 0 else 1) }
+        ensures values { millis_values result
+            ≡ (if nat_eq (self.0 % 1000) 0 && nat_le self.0 4294967295000 then self.0 / 1000 ∷ [] else []) }
+    {
+        let millis = u32::try_from(self.0 / 1_000).ok()?;
+        (self.0 % 1_000 == 0).then_some(Millis(millis))
+    }
+
+    /// The bytes of its number, the low one first.
+    pub fn to_le_bytes(self) -> [u8; 8]
+        ensures { result ≡ micros_bytes self }
+    {
+        u64::to_le_bytes(self.0)
     }
 }
 

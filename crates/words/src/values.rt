@@ -1,7 +1,7 @@
 //! The values of a line. Each function reads from a token on: it gives what it has read and the place past it, or the first fault.
 ghost use Rattle.std.specs.Prelude.{◌≡◌, ◌<◌, IfSome, IsTrue, length};
 ghost use Rattle.std.specs.List.{slice_get};
-ghost use Rattle.words.specs.Values.{answer, byte, byte_or_null, clock_time, direction, fault, flag, is_name, keyword, named_byte, named_time, on_off, optional_byte, optional_time, positive_byte, positive_time, scene_time, transition_time, verb};
+ghost use Rattle.words.specs.Values.{answer, byte, byte_or_null, clock_time, direction, fault, flag, is_name, keyword, named_byte, named_time, on_off, optional_byte, optional_time, positive_byte, positive_time, scene_time, scene_time_of, transition_time, transition_time_of, verb};
 
 use crate::fault::{Expected, WordFault};
 use crate::names::{Name, Verb};
@@ -70,16 +70,23 @@ pub(crate) fn clock_time(tokens: &[Token], at: usize) -> Read<Micros>
     }
 }
 
+fn tenths(token: Option<Token>) -> Option<Tenths>
+    ensures { result ≡ transition_time_of token }
+{
+    match token {
+        Some(Token::Time(time)) => time.to_tenths(),
+        _ => None,
+    }
+}
+
 /// Whole tenths of a second (docs/RULES.md, Units).
 #[tactic(auto, unfolding(crate::specs::Values::transition_time))]
 pub(crate) fn transition_time(tokens: &[Token], at: usize) -> Read<Tenths>
     ensures { result ≡ transition_time tokens.now at }
 {
-    match token_at(tokens, at) {
-        Some(Token::Time(Micros(time))) if time % 100_000 == 0 && time / 100_000 <= 65_535 => {
-            Ok((Tenths((time / 100_000) as u16), at + 1))
-        }
-        _ => fault(at, Expected::TransitionTime),
+    match tenths(token_at(tokens, at)) {
+        Some(time) => Ok((time, at + 1)),
+        None => fault(at, Expected::TransitionTime),
     }
 }
 
@@ -88,13 +95,18 @@ pub(crate) fn transition_time(tokens: &[Token], at: usize) -> Read<Tenths>
 fn positive_time(tokens: &[Token], at: usize) -> Read<Tenths>
     ensures { result ≡ positive_time tokens.now at }
 {
-    match token_at(tokens, at) {
-        Some(Token::Time(Micros(time)))
-            if time % 100_000 == 0 && 1 <= time / 100_000 && time / 100_000 <= 65_535 => {
-            let tenths = (time / 100_000) as u16;
-            Ok((Tenths(tenths), at + 1))
-        }
+    match tenths(token_at(tokens, at)) {
+        Some(time) if Tenths(0) < time => Ok((time, at + 1)),
         _ => fault(at, Expected::PositiveTime),
+    }
+}
+
+fn millis(token: Option<Token>) -> Option<Millis>
+    ensures { result ≡ scene_time_of token }
+{
+    match token {
+        Some(Token::Time(time)) => time.to_millis(),
+        _ => None,
     }
 }
 
@@ -103,11 +115,9 @@ fn positive_time(tokens: &[Token], at: usize) -> Read<Tenths>
 pub(crate) fn scene_time(tokens: &[Token], at: usize) -> Read<Millis>
     ensures { result ≡ scene_time tokens.now at }
 {
-    match token_at(tokens, at) {
-        Some(Token::Time(Micros(time))) if time % 1_000 == 0 && time / 1_000 <= 4_294_967_295 => {
-            Ok((Millis((time / 1_000) as u32), at + 1))
-        }
-        _ => fault(at, Expected::SceneTime),
+    match millis(token_at(tokens, at)) {
+        Some(time) => Ok((time, at + 1)),
+        None => fault(at, Expected::SceneTime),
     }
 }
 

@@ -428,7 +428,7 @@ fn push_positive_time_setting(line: &mut Line, name: Name, time: Tenths)
     ensures text { line.new.items ≡ line.old.items ++ setting_text (positive_time_words name time) }
     ensures room { array_vec_len line.new ≤ array_vec_len line.old + length (name_text name) + 10 }
 {
-    if time.0 != 0 {
+    if time != Tenths(0) {
         push_time_setting(line, name, Some(time));
     }
 }
@@ -474,10 +474,10 @@ fn push_named_time(line: &mut Line, name: Name, time: Time)
     ensures text { line.new.items ≡ line.old.items ++ spaced (time_words name time) }
     ensures room { array_vec_len line.new ≤ array_vec_len line.old + length (name_text name) + 9 }
 {
-    if let Some(Tenths(tenths)) = time {
+    if let Some(time) = time {
         push_name(line, name);
         line.push(b' ');
-        push_seconds(line, u64::from(tenths), 1);
+        push_seconds(line, u64::from(time.0), 1);
     }
 }
 

@@ -58,8 +58,8 @@ loop-index-init c =
       counted = rw (first, whole) (omega arith);
       bound = rw whole (omega arith);
       position = omega arith;
-      next = rw (first, whole, c.new-state.ensures) (omega arith);
-      wrote = λ room new r w. rw (first, whole, c.new-state.ensures) at w;
+      next = rw (first, whole) (omega arith);
+      wrote = λ room new r w. rw (first, whole) at w;
     }
 
 -- the records ended, and not the numbers

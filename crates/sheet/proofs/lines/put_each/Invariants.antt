@@ -1,7 +1,6 @@
 -- What the loop of `put_each` keeps.
 use Rattle.std.proofs.Common.{◌≡◌, ℕ, ◌+◌, ◌*◌, ◌/◌, ◌≤◌, ◌<◌, min, List, length}
 use Rattle.text.specs.Text.{Room, Wrote, most}
-use Rattle.level_control.specs.State.{new_state}
 use Rattle.sheet.specs.Lines.{text_of}
 use Rattle.sheet.proofs.SheetLaws.{rest}
 use Rattle.sheet.proofs.lines.put_each.Given as goal
@@ -9,7 +8,7 @@ use Rattle.sheet.proofs.lines.put_each.Given as goal
 -- the position past all lines stays, and where all have room, what is written of those left completes them
 abbrev pub invariant-loop-index : goal.invariant-loop-index
 invariant-loop-index l =
-    let lines = text_of (new_state l.fn.settings) l.events in
+    let lines = text_of l.fn.state l.events in
     let bytes = l.index-iterator.b.rest.now in
     let more = rest l.index-iterator.a.start l.state bytes in
     record {

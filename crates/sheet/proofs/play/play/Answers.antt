@@ -15,11 +15,11 @@ returns-then-not-length_ok-clause-number c =
 pub returns-clause-number : goal.returns-clause-number
 unfolding play_of play_with
 returns-clause-number c =
-    let same : (c.fit.result, c.fit.new.out) ≡ play_of c.args.records.now c.args.out.now = grind (arith, at_least, at_most, take_rest) in
+    let same : (c.fit_new.result, c.fit_new.new.out) ≡ play_of c.args.records.now c.args.out.now = grind (arith, at_least, at_most, take_rest) in
     number_given c.args.records.now c.args.out.now same
 
 pub returns-clause-values : goal.returns-clause-values
 unfolding play_of play_with
 returns-clause-values c =
-    let same : (c.fit.result, c.fit.new.out) ≡ play_of c.args.records.now c.args.out.now = grind (arith, at_least, at_most, take_rest) in
+    let same : (c.fit_new.result, c.fit_new.new.out) ≡ play_of c.args.records.now c.args.out.now = grind (arith, at_least, at_most, take_rest) in
     values_given c.args.records.now c.args.out.now same
